@@ -1,0 +1,91 @@
+// Labels: who vouches for a value (integrity) and who must not learn it (confidentiality), with the rules by which
+// they flow. A label is a byte, its integrity in the high half and its confidentiality in the low half, one bit for
+// each principal. Every rule works on whole bytes, with neither branch nor table. Usable without the machine.
+ghost use mathlib.Core.Path.{_≡_};
+ghost use lib.Dec.{eqb};
+ghost use Rattle.labels.specs.Label.{flows, join, meet, reflection, uncompromised, validPair, lowest, highest, mayRaise, mayRelabel};
+
+pub struct Label(pub u8);
+
+// The bits of a label's integrity.
+const INTEGRITY: u8 = 240;
+// The bits of its confidentiality.
+const CONFIDENTIALITY: u8 = 15;
+
+impl Label {
+    // Trusted by all, secret to none.
+    pub const LOWEST: Label = Label(240);
+    // Trusted by none, secret to all.
+    pub const HIGHEST: Label = Label(15);
+
+    // Whether what bears this label may reach what bears `to`: `to` is vouched for by no one else and kept from all
+    // that this one is kept from.
+    pub fn flows_to(self, to: Label) -> bool
+        ensures { λ r. ⌜ r ≡ flows (self .0) (to .0) ⌝ }
+    {
+        self.0 & to.0 == (to.0 & INTEGRITY) | (self.0 & CONFIDENTIALITY)
+    }
+
+    // The lowest label that both this one and `other` flow to.
+    pub fn join(self, other: Label) -> Label
+        ensures { λ r. ⌜ r .0 ≡ join (self .0) (other .0) ⌝ }
+    {
+        Label((self.0 & other.0 & INTEGRITY) | ((self.0 | other.0) & CONFIDENTIALITY))
+    }
+
+    // The highest label that flows to both this one and `other`.
+    pub fn meet(self, other: Label) -> Label
+        ensures { λ r. ⌜ r .0 ≡ meet (self .0) (other .0) ⌝ }
+    {
+        Label(((self.0 | other.0) & INTEGRITY) | (self.0 & other.0 & CONFIDENTIALITY))
+    }
+
+    // Integrity and confidentiality exchanged.
+    pub fn reflection(self) -> Label
+        ensures { λ r. ⌜ r .0 ≡ reflection (self .0) ⌝ }
+    {
+        Label(self.0 % 16 * 16 + self.0 / 16)
+    }
+
+    // Whether everyone from whom this is kept vouches for it.
+    pub fn is_uncompromised(self) -> bool
+        ensures { λ r. ⌜ r ≡ uncompromised (self .0) ⌝ }
+    {
+        self.0 % 16 & (self.0 / 16) == self.0 % 16
+    }
+
+    // Whether this pc label makes a valid pair with the label `timing`.
+    pub fn is_valid_pair(self, timing: Label) -> bool
+        ensures { λ r. ⌜ r ≡ validPair (self .0) (timing .0) ⌝ }
+    {
+        self.flows_to(timing) & self.is_uncompromised() & timing.is_uncompromised()
+    }
+
+    // Whether a value of this label may get the label `to`, further up, where the pc label is `under`.
+    pub fn may_raise(self, to: Label, under: Label) -> bool
+        ensures { λ r. ⌜ r ≡ mayRaise (under .0) (self .0) (to .0) ⌝ }
+    {
+        under.flows_to(self) & self.flows_to(to) & to.flows_to(under.reflection())
+    }
+
+    // Whether a value of this label may get the label `to`, further down too, where the pc label is `under`.
+    pub fn may_relabel(self, to: Label, under: Label) -> bool
+        ensures { λ r. ⌜ r ≡ mayRelabel (under .0) (self .0) (to .0) ⌝ }
+    {
+        under.flows_to(self.meet(to)) & self.is_uncompromised() & to.flows_to(under.reflection())
+    }
+
+    // Whether this is the lowest label.
+    pub fn is_lowest(self) -> bool
+        ensures { λ r. ⌜ r ≡ eqb (self .0) lowest ⌝ }
+    {
+        self.0 == Label::LOWEST.0
+    }
+
+    // Whether this is the highest label.
+    pub fn is_highest(self) -> bool
+        ensures { λ r. ⌜ r ≡ eqb (self .0) highest ⌝ }
+    {
+        self.0 == Label::HIGHEST.0
+    }
+}
