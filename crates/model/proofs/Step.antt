@@ -1,0 +1,193 @@
+-- The laws of one step: what it writes fits and is legal, what it leaves, and where it leaves the clock.
+-- Assumes nothing.
+use Prim.Native.Nat.{ℕ, _+_, _^_, _<_, _≤_}
+use mathlib.Core.Path.{_≡_, refl, sym, ap, _∙_, subst}
+use mathlib.Core.Logic.{_⊎_, inl, inr, ⊎-elim}
+use mathlib.Core.Bool.{Bool, true, false, cond, or-true}
+use mathlib.Core.List.{List}
+use native.Mathlib.Nat.{le-refl, le-trans, lt-of-lt-of-le}
+use native.Mathlib.Omega.{arith}
+use lib.Dec.{eqb, ltb, lit<}
+use lib.ListN.{getD, set, length, drop, length-set}
+use lib.Seq.{drop-set-lt}
+use borrow.Author.Tests.{eq-eqb}
+use Rattle.labels.specs.Label.{flows}
+use Rattle.labels.proofs.Laws.{Flows, flows-trans, valid-flows}
+use Rattle.model.specs.declared.Control.{Control}
+use Rattle.model.specs.Record.{State, Location, register, word, bankOf, indexOf, valueAt, labelAt, newest, inUpcall}
+use Rattle.model.specs.Typed.{Typed, Below}
+use Rattle.model.specs.Ops.{Write, nothing, value, label, Change, write, goto, enter, openUpcall, openGate, closeGate, stop}
+use Rattle.model.specs.Step.{Decision, rest, spend, stall, close, carry, endTick, finish, fetch, plan, beyondLimit, inLimit, running, decide, written, causeWrite, changeWrite, writeOf, changed, restored, controlAfter, apply, step}
+use Rattle.model.proofs.Truth.{choice, clash}
+use Rattle.model.proofs.Writes.{There, Lengths, lengths, set-at, written-lengths}
+use Rattle.model.proofs.Legal.{_⊑_, Inside, LegalWrite, keeps, sets, marks, LegalChange, writes, goes, enters, calls, gates, returns, stops, Legal, rests, spends, stalls, closes, carries, legal}
+use Rattle.model.proofs.WellFormed.{Fit, UpcallFit, top-upcall, step-fit, step-fixed, step-control}
+
+-- A state that a call is carried out on: its record is well-formed, its lists are as the types say, and the lent words and
+-- labels are each at least as long as the size.
+pub record Ready (s : State) : Type 0 where
+  pub fit : Fit (s .fixed) (s .control)
+  pub typed : Typed s
+  pub words : s .fixed .size ≤ length (s .memory .values)
+  pub labels : s .fixed .size ≤ length (s .memory .labels)
+
+-- ---- what a step writes
+
+-- A cause is written to register 15 only where p, by way of t, flows to its label.
+cause-legal : (s : State) (cause : ℕ) → Fit (s .fixed) (s .control) → cause ≤ 3 → LegalWrite s (causeWrite s cause)
+unfolding causeWrite
+cause-legal s cause f h =
+    choice (LegalWrite s) (flows (s .control .pair .timing) (labelAt s (register 15))) _ _
+    (λ e. sets (lit< tt) (flows-trans (valid-flows _ _ _ (f .valid)) (record { holds = e })) (omega arith))
+    (λ e. keeps)
+
+-- What a change writes is legal.
+change-write : (s : State) {ticks : ℕ} {c : Change} → LegalChange s ticks c → LegalWrite s (changeWrite c)
+change-write s (writes h) = h
+change-write s goes = keeps
+change-write s (enters v p t) = keeps
+change-write s (calls h) = keeps
+change-write s (gates h) = keeps
+change-write s (returns g p) = keeps
+change-write s (stops n) = keeps
+
+-- What a decision writes is legal: its location exists, and p flows to the labels there.
+pub write-legal : (s : State) {d : Decision} → Fit (s .fixed) (s .control) → Legal s d → LegalWrite s (writeOf s d)
+unfolding writeOf
+write-legal s f (rests r) = keeps
+write-legal s f (spends r h) = keeps
+write-legal s f (stalls r n a b) = keeps
+write-legal s f (closes {cause} r u c l) = cause-legal s cause f c
+write-legal s f (carries r long l u h) = change-write s h
+
+-- A register or a word that exists is there in a ready state.
+pub there : (s : State) → Ready s → (x : Location) → Inside s x → There s x
+there s r (register k) h = record { value = rw (r .typed .registers) h; label = rw (r .typed .labels) h }
+there s r (word k) h = record { value = lt-of-lt-of-le h (r .words); label = lt-of-lt-of-le h (r .labels) }
+
+-- ---- what a step leaves
+
+-- The lengths of the lists.
+pub step-lengths : (s : State) → lengths (step s) ≡ lengths s
+unfolding step apply
+step-lengths s = written-lengths s (writeOf s (decide s))
+
+-- A list with a number below k set keeps below k.
+below-set : {k : ℕ} (xs : List ℕ) (i v : ℕ) → i < length xs → v < k → Below k xs → Below k (set xs i v)
+unfolding Below
+below-set {k} xs i v h lt b j =
+    rw (set-at xs i j v h) (choice (λ (x : ℕ). x < k) (eqb i j) v (getD xs j 0) (λ e. lt) (λ e. b j))
+
+-- Registers and words keep to 32 bits.
+written-below : (s : State) → Ready s → {w : Write} → LegalWrite s w
+    → Below (2 ^ 32) (written s w .registers .values) × Below (2 ^ 32) (written s w .memory .values)
+unfolding written
+written-below s r keeps = (r .typed .values, r .typed .words)
+written-below s r (sets {x = register k} {v = v} h p lt) =
+    (below-set (s .registers .values) k v (there s r (register k) h .value) lt (r .typed .values), r .typed .words)
+written-below s r (sets {x = word k} {v = v} h p lt) =
+    (r .typed .values, below-set (s .memory .values) k v (there s r (word k) h .value) lt (r .typed .words))
+written-below s r (marks {x = register k} h p l) = (r .typed .values, r .typed .words)
+written-below s r (marks {x = word k} h p l) = (r .typed .values, r .typed .words)
+
+-- Words and labels at or beyond the size.
+written-beyond : (s : State) {w : Write} → LegalWrite s w
+    → (drop (s .fixed .size) (written s w .memory .values) ≡ drop (s .fixed .size) (s .memory .values))
+    × (drop (s .fixed .size) (written s w .memory .labels) ≡ drop (s .fixed .size) (s .memory .labels))
+unfolding written
+written-beyond s keeps = (refl, refl)
+written-beyond s (sets {x = register k} h p lt) = (refl, refl)
+written-beyond s (sets {x = word k} {v = v} h p lt) = (drop-set-lt _ (s .memory .values) k v h, refl)
+written-beyond s (marks {x = register k} h p l) = (refl, refl)
+written-beyond s (marks {x = word k} {l = m} h p l) = (refl, drop-set-lt _ (s .memory .labels) k m h)
+
+-- What a step writes is legal.
+pub step-write : (s : State) → Ready s → LegalWrite s (writeOf s (decide s))
+step-write s r = write-legal s (r .fit) (legal s (r .typed))
+
+-- A step leaves words and labels at or beyond the size.
+pub step-beyond : (s : State) → Ready s
+    → (drop (s .fixed .size) (step s .memory .values) ≡ drop (s .fixed .size) (s .memory .values))
+    × (drop (s .fixed .size) (step s .memory .labels) ≡ drop (s .fixed .size) (s .memory .labels))
+unfolding step apply
+step-beyond s r = written-beyond s (step-write s r)
+
+-- A step of a ready state gives a ready state.
+pub step-ready : (s : State) → Ready s → Ready (step s)
+unfolding step apply
+step-ready s r =
+    let b = written-below s r (step-write s r) in
+    let n = step-lengths s in
+    record {
+      fit = step-fit s (r .typed) (r .fit);
+      typed =
+          record {
+            values = b .0;
+            words = b .1;
+            registers = ap (λ (x : Lengths). x .values) n ∙ r .typed .registers;
+            labels = ap (λ (x : Lengths). x .labels) n ∙ r .typed .labels;
+          };
+      words = rw (step-fixed s, ap (λ (x : Lengths). x .words) n) (r .words);
+      labels = rw (step-fixed s, ap (λ (x : Lengths). x .tags) n) (r .labels);
+    }
+
+-- ---- the clock
+
+-- A step leaves the clock where its decision would finish: a carried-out change at the clock and its ticks, a close at
+-- the end tick + 1.
+pub clock-after : (s : State) (d : Decision) → controlAfter s d .clock ≡ finish s d
+unfolding controlAfter finish changed restored
+clock-after s rest = refl
+clock-after s spend = refl
+clock-after s (stall why) = refl
+clock-after s (close cause) = refl
+clock-after s (carry ticks (write x)) = refl
+clock-after s (carry ticks (goto k)) = refl
+clock-after s (carry ticks (enter q)) = refl
+clock-after s (carry ticks (openUpcall k q e)) = refl
+clock-after s (carry ticks (openGate g)) = refl
+clock-after s (carry ticks closeGate) = refl
+clock-after s (carry ticks stop) = refl
+
+-- The end tick of an open upcall is at least the clock.
+pub end-tick-late : (s : State) → Fit (s .fixed) (s .control) → inUpcall (s .control) ≡ true → s .control .clock ≤ endTick s
+unfolding endTick inUpcall newest
+end-tick-late s f u = top-upcall (f .calls) u .started
+
+-- The clock never falls and never passes the limit, and a step that leaves it ends the run.
+pub record Passes (s : State) (c : Control) : Type 0 where
+  pub rises : s .control .clock ≤ c .clock
+  pub limited : c .clock ≤ s .fixed .limit
+  pub progress : running s ≡ true → (s .control .clock < c .clock) ⊎ (eqb (c .end) 0 ≡ false)
+
+-- So it is with every decision.
+passes : (s : State) {d : Decision} → Fit (s .fixed) (s .control) → Legal s d → Passes s (controlAfter s d)
+unfolding finish controlAfter
+passes s f (rests r) = record { rises = le-refl _; limited = f .clock; progress = λ u. clash u r }
+passes s f (spends r h) = record { rises = f .clock; limited = le-refl _; progress = λ u. inr refl }
+passes s f (stalls r n a b) = record { rises = le-refl _; limited = f .clock; progress = λ u. inr refl }
+passes s f (closes {cause} r u c l) =
+    let k = end-tick-late s f u in
+    rw (clock-after s (close cause)) (record { rises = omega arith; limited = omega arith; progress = λ v. inl (omega arith) })
+passes s f (carries {ticks} {c} r long l u h) =
+    let k = clock-after s (carry ticks c) in
+    record { rises = omega arith; limited = omega arith; progress = λ v. inl (omega arith) }
+
+-- So it is with a step.
+pub step-passes : (s : State) → Ready s → Passes s (step s .control)
+step-passes s r = rw (step-control s) (passes s (r .fit) (legal s (r .typed)))
+
+-- The clock after a step.
+pub step-clock : (s : State) → step s .control .clock ≡ finish s (decide s)
+step-clock s = ap (λ c. c .clock) (step-control s) ∙ clock-after s (decide s)
+
+-- An ended record steps to itself.
+pub step-ended : (s : State) → running s ≡ false → step s ≡ s
+unfolding step apply decide writeOf written controlAfter
+step-ended s e = rw e
+
+-- At clock = limit every step of a running record spends the clock.
+pub spends-at-limit : (s : State) → running s ≡ true → s .control .clock ≡ s .fixed .limit → decide s ≡ spend
+unfolding decide inLimit beyondLimit
+spends-at-limit s r e =
+    rw (r, eq-eqb (s .control .clock) (s .fixed .limit) e, or-true (ltb (s .fixed .limit) (finish s (plan s (fetch s)))))

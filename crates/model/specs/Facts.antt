@@ -1,0 +1,110 @@
+-- The starred facts of document 01, "Firings to check", as one table: each row is a test of the definitions, and
+-- proofs/Facts.antt has the checker compute that all pass.
+-- Assumes nothing.
+use Prim.Native.Nat.{ℕ, zero, suc, _+_, _-_, _*_, _^_}
+use mathlib.Core.Bool.{Bool, true, not, _&&_, cond}
+use mathlib.Core.List.{List, [], _∷_}
+use lib.Dec.{eqb}
+use lib.ListN.{replicate}
+use Rattle.labels.specs.Label.{flows, join, meet, uncompromised, mayRaise, mayRelabel, lowest}
+use Rattle.model.specs.declared.Pair.{Pair}
+use Rattle.model.specs.declared.Call.the-variants.{Empty}
+use Rattle.model.specs.Record.{State, isEmpty, newest, valueAt, register}
+use Rattle.model.specs.Ops.{multiplyTicks, noGate}
+use Rattle.model.specs.Step.{step}
+
+-- ---- a state to try an upcall in
+
+-- A word with its op and what it names.
+abbrev pub wordOf : ℕ → ℕ → ℕ → ℕ → ℕ
+wordOf op a b n = op * 2 ^ 24 + a * 2 ^ 20 + b * 2 ^ 16 + n
+
+-- The lowest label twice.
+abbrev pub lowPair : Pair
+lowPair = record { pc = lowest; timing = lowest }
+
+-- A machine at clock 10 and pc 0, of size 8, with error pc 7 and limit 100. Register 1 holds the ticks of the upcall,
+-- registers 2 and 3 its pair, register 4 its return pc 3. The program is the upcall and then the word given.
+abbrev pub trial : ℕ → ℕ → State
+trial ticks w =
+    record {
+      fixed = record { size = 8; limit = 100; errorpc = 7; count = 0; gates = replicate 8 noGate };
+      control = record { pc = 0; pair = lowPair; clock = 10; first = Empty; second = Empty; end = 0; why = 0 };
+      registers = record { values = 0 ∷ ticks ∷ 240 ∷ 240 ∷ 3 ∷ replicate 11 0; labels = replicate 16 lowest };
+      memory =
+          record {
+            values = wordOf 18 1 2 (3 * 2 ^ 12 + 4 * 2 ^ 8) ∷ w ∷ replicate 6 0;
+            labels = replicate 8 lowest;
+          };
+    }
+
+-- So many steps at the most, until no call is open.
+abbrev pub untilClosed : ℕ → State → State
+untilClosed zero s = s
+untilClosed (suc k) s = let again = untilClosed k (step s) in cond (isEmpty (newest (s .control))) s again
+
+-- The state in which the upcall of so many ticks is back, its program being the word given.
+abbrev pub back : ℕ → ℕ → State
+back ticks w = untilClosed 30 (step (trial ticks w))
+
+-- It is back at that clock, at the return pc, with that cause in register 15.
+abbrev pub backAt : ℕ → ℕ → ℕ → ℕ → Bool
+backAt ticks w cause clock =
+    let s = back ticks w in
+    eqb (s .control .clock) clock && eqb (s .control .pc) 3 && eqb (valueAt s (register 15)) cause
+    && isEmpty (newest (s .control))
+
+-- Op 19: the end of an upcall.
+abbrev pub end : ℕ
+end = wordOf 19 0 0 0
+
+-- Op 11 that goes to itself for ever.
+abbrev pub spin : ℕ
+spin = wordOf 11 0 0 1
+
+-- Op 22: a halt.
+abbrev pub stop : ℕ
+stop = wordOf 22 0 0 0
+
+-- ---- the table
+
+-- The starred facts.
+abbrev pub facts : List Bool
+facts =
+    -- 255 to 15 flows; 255 to 0 doesn't
+    flows 255 15
+    ∷ not (flows 255 0)
+    -- the join of 255 and 0 is 15, the meet 240
+    ∷ eqb (join 255 0) 15
+    ∷ eqb (meet 255 0) 240
+    -- 18 isn't sound, 51 is
+    ∷ not (uncompromised 18)
+    ∷ uncompromised 51
+    -- raise 255 to 15 under 255 fails; 240 to 15 under 240 passes
+    ∷ not (mayRaise 255 255 15)
+    ∷ mayRaise 240 240 15
+    -- relabel 255 to 240 under 240 passes; 15 to 0 under 0 fails
+    ∷ mayRelabel 240 255 240
+    ∷ not (mayRelabel 0 15 0)
+    -- op 8, both labels flowing to t, with Rc 0, 1, 16, 2^32 - 1: 2, 3, 4, 10
+    ∷ eqb (multiplyTicks true 0) 2
+    ∷ eqb (multiplyTicks true 1) 3
+    ∷ eqb (multiplyTicks true 16) 4
+    ∷ eqb (multiplyTicks true (2 ^ 32 - 1)) 10
+    -- upcall at clock 10, Ra 20: back at 33, for each cause
+    ∷ backAt 20 end 1 33
+    ∷ backAt 20 spin 2 33
+    ∷ backAt 20 stop 3 33
+    -- Ra 0: back at 13, for each cause
+    ∷ backAt 0 end 1 13
+    ∷ backAt 0 spin 2 13
+    ∷ backAt 0 stop 3 13
+    -- unused bits are ignored: all set in op 19, in op 22
+    ∷ backAt 20 (end + (2 ^ 24 - 1)) 1 33
+    ∷ backAt 20 (stop + (2 ^ 24 - 1)) 3 33
+    ∷ []
+
+-- Every test of a list passes.
+abbrev pub every : List Bool → Bool
+every [] = true
+every (b ∷ bs) = b && every bs

@@ -1,0 +1,54 @@
+-- When a record is well-formed (the paper's fit): document 01, "The record", its last paragraph.
+-- Assumes nothing.
+use Prim.Native.Nat.{ℕ, _^_}
+use mathlib.Core.Bool.{Bool, true, false, _&&_, cond}
+use mathlib.Core.List.{List}
+use lib.Dec.{leb, ltb, eqb}
+use lib.ListN.{length}
+use Rattle.labels.specs.Label.{flows, validPair}
+use Rattle.model.specs.declared.Pair.{Pair}
+use Rattle.model.specs.declared.Fixed.{Fixed}
+use Rattle.model.specs.declared.Control.{Control}
+use Rattle.model.specs.declared.Call.{Call}
+use Rattle.model.specs.declared.Call.the-variants.{Empty, Gate, Upcall}
+use Rattle.model.specs.Record.{Machine}
+
+-- A pair is valid.
+abbrev pub isValid : Pair → Bool
+isValid q = validPair (q .pc) (q .timing)
+
+-- The ranges of what no step changes: size 1 to 2,048 words, limit 1 to 16,777,216 ticks, up to eight gates.
+unfoldable pub fixedInRange : Fixed → Bool
+fixedInRange f = leb 1 (f .size) && leb (f .size) 2048 && leb 1 (f .limit) && leb (f .limit) (2 ^ 24) && leb (f .count) 8
+
+-- End is 0 to 3; why is 1 to 3 at end 3, else 0.
+unfoldable pub endInRange : Control → Bool
+endInRange c = leb (c .end) 3 && cond (eqb (c .end) 3) (leb 1 (c .why) && leb (c .why) 3) (eqb (c .why) 0)
+
+-- What is asked of an upcall's kept pair q and end tick e: the pair is valid, its labels flow to the current ones, and
+-- the end tick is at least the clock and below 2^33.
+unfoldable pub upcallWellFormed : Control → Pair → ℕ → Bool
+upcallWellFormed c q e =
+    isValid q && flows (q .pc) (c .pair .pc) && flows (q .timing) (c .pair .timing) && leb (c .clock) e && ltb e (2 ^ 33)
+
+-- The two places hold no call, a gate call, an upcall, or an upcall over a gate call; a gate call's kept pair is valid.
+abbrev pub callsWellFormed : Control → Call → Call → Bool
+callsWellFormed c Empty Empty = true
+callsWellFormed c Empty (Gate k q) = false
+callsWellFormed c Empty (Upcall k q e) = false
+callsWellFormed c (Gate k q) Empty = isValid q
+callsWellFormed c (Gate k q) (Gate k′ q′) = false
+callsWellFormed c (Gate k q) (Upcall k′ q′ e′) = isValid q && upcallWellFormed c q′ e′
+callsWellFormed c (Upcall k q e) Empty = upcallWellFormed c q e
+callsWellFormed c (Upcall k q e) (Gate k′ q′) = false
+callsWellFormed c (Upcall k q e) (Upcall k′ q′ e′) = false
+
+-- The record is fit: the ranges hold, the clock is at most the limit, and the current pair and the calls are fit.
+unfoldable pub wellFormed : Machine → Bool
+wellFormed r =
+    fixedInRange (r .fixed) && endInRange (r .control) && leb (r .control .clock) (r .fixed .limit) && isValid (r .control .pair)
+    && callsWellFormed (r .control) (r .control .first) (r .control .second)
+
+-- The lent words and the lent labels are each at least as long as the size.
+unfoldable pub lentWhole : Fixed → List ℕ → List ℕ → Bool
+lentWhole f words labels = leb (f .size) (length words) && leb (f .size) (length labels)
