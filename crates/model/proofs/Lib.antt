@@ -5,3 +5,4 @@ pub mod WellFormed
 pub mod Step
 pub mod Run
 pub mod Facts
+pub mod Noninterference

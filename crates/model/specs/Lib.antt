@@ -9,3 +9,5 @@ pub mod Answer
 -- ======== Here the definition of the machine ends. Everything else, here and in proofs/, is derived from it.
 pub mod Typed
 pub mod Facts
+pub mod Seen
+pub mod Noninterference

@@ -1,0 +1,68 @@
+-- The theorem: specs/Noninterference.antt states it. The files below this one prove it: Sight says what is seen after a
+-- write, Hidden takes a step with the pc label outside, Visible a step each with one control within, Paths brings two
+-- machines to one tick, and Trace turns the states of a sequence of calls into so many steps.
+-- Assumes nothing.
+pub mod Sight
+pub mod Hidden
+pub mod Visible
+pub mod Paths
+pub mod Trace
+use Prim.Native.Nat.{ℕ, _≤_}
+use mathlib.Core.Path.{_≡_, refl, sym, subst}
+use mathlib.Core.Bool.{false, cond, _&&_}
+use native.Mathlib.Omega.{arith}
+use mathlib.Core.List.{List}
+use mathlib.Core.Bool.{true}
+use lib.Dec.{leb}
+use lib.ListN.{length}
+use borrow.Author.Tests.{leb-true}
+use Rattle.model.specs.declared.Control.{Control}
+use Rattle.model.specs.Record.{State, isUpcall, isEmpty, newest, inUpcall}
+use Rattle.model.specs.WellFormed.{lentWhole}
+use Rattle.model.specs.Seen.{LowEquivalent}
+use Rattle.model.specs.Noninterference.{Invocation, trace, atTick, reached, Provisos, Loaded, Noninterference}
+use Rattle.model.proofs.Truth.{and-iff}
+use Rattle.model.proofs.WellFormed.{fit}
+use Rattle.model.proofs.Step.{Ready}
+use Rattle.model.proofs.Noninterference.Paths.{Both, at-one-tick}
+use Rattle.model.proofs.Noninterference.Trace.{path, Arrived, arrive, trace-row}
+
+-- A loaded state is ready.
+loaded-ready : (s : State) → Loaded s → Ready s
+unfolding lentWhole
+loaded-ready s l =
+    let h = simp and-iff at (l .lent) in
+    record {
+      fit = fit s (l .wellFormed);
+      typed = l .typed;
+      words = leb-true (s .fixed .size) (length (s .memory .values)) (h .0);
+      labels = leb-true (s .fixed .size) (length (s .memory .labels)) (h .1);
+    }
+
+-- It is in no upcall.
+loaded-outside : (s : State) → Loaded s → inUpcall (s .control) ≡ false
+unfolding inUpcall newest
+loaded-outside s l = rw (l .second, l .first)
+
+-- The state at a reached tick, of a sequence of calls.
+arrived : (ℓ k : ℕ) (s : State) → Loaded s → (qs : List Invocation) → Provisos ℓ k s (trace qs s)
+    → reached k s (trace qs s) ≡ true → Arrived ℓ k s (atTick k s (trace qs s))
+arrived ℓ k s l qs p h =
+    let r = loaded-ready s l in
+    let (m, e) = trace-row qs s r in
+    rw e (arrive ℓ k m s r (rw (l .clock) (omega arith)) (rw e at h) (rw e at (p .steps)))
+
+-- The two are alike at or below ℓ at every tick that both have reached.
+pub noninterference : Noninterference
+noninterference ℓ k s t l m same low qs rs p q h g =
+    let a = arrived ℓ k s l qs p h in
+    let b = arrived ℓ k t m rs q g in
+    rw (a .state, b .state)
+    (at-one-tick ℓ k (a .count) (b .count) s t
+    (record {
+      one = loaded-ready s l;
+      two = loaded-ready t m;
+      setting = same;
+      alike = record { size = same .size; seen = low .locations };
+    })
+    (p .loaded) (low .control) (loaded-outside s l) (loaded-outside t m) (a .allowed) (b .allowed) (a .rests) (b .rests))

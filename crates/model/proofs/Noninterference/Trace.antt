@@ -1,0 +1,230 @@
+-- The trace of a sequence of calls is the states of so many steps in a row, whatever the calls were; and the state at a
+-- reached tick is one of these, at which the machine rests.
+-- Assumes nothing.
+use Prim.Native.Nat.{ℕ, zero, suc, _+_, _-_, _<_, _≤_, min}
+use mathlib.Core.Path.{_≡_, refl, sym, ap, ap₂, _∙_, subst}
+use mathlib.Core.Logic.{_⊎_, inl, inr, ⊎-elim}
+use mathlib.Core.Bool.{Bool, true, false, not, _&&_, _||_, cond, and-false, false-and}
+use mathlib.Core.List.{List, [], _∷_, _++_}
+use native.Mathlib.Nat.{zero-add, suc-add, le-refl, le-trans, lt-of-lt-of-le, min-le-right, min-le-left}
+use native.Mathlib.Omega.{arith}
+use lib.Dec.{leb, ltb, eqb}
+use lib.ListN.{length, take, drop, getD, length-take, drop-of-length-le}
+use lib.Seq.{sets, set-getD, drop-cons, take-nil}
+use borrow.Author.Tests.{leb-true, leb-false, ltb-true, ltb-false, le-ltb, lt-leb, le-leb}
+use Rattle.model.specs.declared.Fixed.{Fixed}
+use Rattle.model.specs.Record.{Bank, Machine, State, machineOf, stateOf}
+use Rattle.model.specs.WellFormed.{wellFormed, lentWhole}
+use Rattle.model.specs.Step.{running, step, steps, run}
+use Rattle.model.specs.Answer.{Answer, answer, refused, done}
+use Rattle.model.specs.Noninterference.{Kind, stepCall, runCall, Lent, whole, part, Invocation, lend, regain, answerOf, answered, after, runStates, workStates, callStates, trace, final, atTick, reached, StepProvisos, StepsProvisos}
+use Rattle.model.proofs.Truth.{either, clash, or-true, not-iff}
+use Rattle.model.proofs.WellFormed.{fits}
+use Rattle.model.proofs.Step.{Ready, step-ready, step-passes}
+use Rattle.model.proofs.Run.{steps-ended, steps-add, steps-ready, steps-leave}
+use Rattle.model.proofs.Noninterference.Paths.{Allowed, Rests}
+
+-- ---- so many steps in a row
+
+-- The states after each of m steps.
+abbrev pub path : ℕ → State → List State
+path zero s = []
+path (suc m) s = step s ∷ path m (step s)
+
+-- First m and then n.
+path-append : (m n : ℕ) (s : State) → path m s ++ path n (steps m s) ≡ path (m + n) s
+unfolding steps
+path-append zero n s = rw zero-add
+path-append (suc m) n s = rw suc-add (ap (λ xs. step s ∷ xs) (path-append m n (step s)))
+
+-- The last of them.
+final-path : (m : ℕ) (s : State) → final s (path m s) ≡ steps m s
+unfolding final steps
+final-path zero s = refl
+final-path (suc m) s = final-path m (step s)
+
+-- A list of states is so many steps in a row, the last of which is t.
+pub record Row (s : State) (xs : List State) (t : State) : Type 0 where
+  pub count : ℕ
+  pub states : xs ≡ path count s
+  pub last : t ≡ steps count s
+
+-- ---- one call
+
+-- A run's states are so many steps in a row.
+run-row : (n : ℕ) (s : State) → Row s (runStates n s) (steps n s)
+unfolding runStates steps
+run-row zero s = record { count = 0; states = refl; last = refl }
+run-row (suc n) s =
+    ⊎-elim
+    (λ (r : running s ≡ true).
+    let h = run-row n (step s) in
+    record { count = suc (h .count); states = rw r (ap (λ xs. step s ∷ xs) (h .states)); last = h .last })
+    (λ (r : running s ≡ false). record { count = 0; states = rw r; last = steps-ended (suc n) s r })
+    (either (running s))
+
+-- What a call of each kind does.
+abbrev work : Kind → State → State
+work stepCall = step
+work runCall = run
+
+-- Its answer is the definition of the public call's.
+answer-work : (k : Kind) → answerOf k ≡ answer (work k)
+answer-work stepCall = refl
+answer-work runCall = refl
+
+-- What a call does is so many steps in a row.
+work-row : (k : Kind) (s : State) → Row s (workStates k s) (work k s)
+unfolding workStates run steps
+work-row stepCall s = record { count = 1; states = refl; last = refl }
+work-row runCall s = run-row (s .fixed .limit - s .control .clock + 1) s
+
+-- A part that is lent is shorter than the size.
+part-short : (size from count : ℕ) (xs : List ℕ) → 1 ≤ size → length (lend size (part from count) xs) < size
+unfolding lend
+part-short size from count xs h =
+    rw length-take
+    (omega (arith, min-le-left (min count (size - 1)) (length (drop from xs)), min-le-right count (size - 1)))
+
+-- A part that is left as it was lent leaves the whole as it was.
+part-left : (n i : ℕ) (xs : List ℕ) → sets xs i (take n (drop i xs)) ≡ xs
+part-left zero i xs = refl
+part-left (suc n) i xs =
+    ⊎-elim
+    (λ (h : ltb i (length xs) ≡ true).
+    ap (λ (ys : List ℕ). sets xs i (take (suc n) ys)) (drop-cons xs i 0 (ltb-true i (length xs) h))
+    ∙ ap (λ (ys : List ℕ). sets ys (suc i) (take n (drop (suc i) xs))) (set-getD xs i 0) ∙ part-left n (suc i) xs)
+    (λ (h : ltb i (length xs) ≡ false). rw (drop-of-length-le xs (ltb-false i (length xs) h)))
+    (either (ltb i (length xs)))
+
+-- What is lent and left as it was leaves the list.
+regain-lent : (size : ℕ) (l : Lent) (xs : List ℕ) → regain l xs (lend size l xs) ≡ xs
+unfolding regain lend
+regain-lent size whole xs = refl
+regain-lent size (part from count) xs = part-left (min count (size - 1)) from xs
+
+-- The memory that a call is lent.
+abbrev lentOf : Invocation → State → Bank
+lentOf q s =
+    record { values = lend (s .fixed .size) (q .words) (s .memory .values); labels = lend (s .fixed .size) (q .labels) (s .memory .labels) }
+
+-- The answer of a call that is lent too little: refusal 6.
+answer-short : (q : Invocation) (s : State) → Ready s
+    → lentWhole (s .fixed) (lentOf q s .values) (lentOf q s .labels) ≡ false
+    → answered q s ≡ refused 6 (machineOf s) (lentOf q s)
+unfolding answered answer
+answer-short q s r e =
+    ap (λ (f : Machine → Bank → Answer). f (machineOf s) (lentOf q s)) (answer-work (q .kind)) ∙ rw (fits s (r .fit), e)
+
+-- The answer of a call that is lent all.
+answer-whole : (k : Kind) (s : State) → Ready s
+    → answered (record { kind = k; words = whole; labels = whole }) s ≡ done (work k s)
+unfolding answered answer lend lentWhole
+answer-whole k s r =
+    ap (λ (f : Machine → Bank → Answer). f (machineOf s) (s .memory)) (answer-work k)
+    ∙ rw (fits s (r .fit), le-leb _ _ (r .words), le-leb _ _ (r .labels))
+
+-- A call that is lent too little changes nothing.
+short-row : (q : Invocation) (s : State) → Ready s
+    → lentWhole (s .fixed) (lentOf q s .values) (lentOf q s .labels) ≡ false → Row s (callStates q s) (after q s)
+unfolding callStates after steps
+short-row q s r e =
+    let h = answer-short q s r e in
+    record {
+      count = 0;
+      states = rw h;
+      last =
+          rw (h, regain-lent (s .fixed .size) (q .words) (s .memory .values), regain-lent (s .fixed .size) (q .labels) (s .memory .labels));
+    }
+
+-- A call that is lent all does its work.
+whole-row : (k : Kind) (s : State) → Ready s
+    → Row s (callStates (record { kind = k; words = whole; labels = whole }) s) (after (record { kind = k; words = whole; labels = whole }) s)
+unfolding callStates after regain
+whole-row k s r =
+    let h = answer-whole k s r in
+    let w = work-row k s in
+    record { count = w .count; states = rw h (w .states); last = rw h (w .last) }
+
+-- Lent a part of the words or of the labels is lent too little.
+short-words : (f : Fixed) (xs ys : List ℕ) → length xs < f .size → lentWhole f xs ys ≡ false
+unfolding lentWhole
+short-words f xs ys h = rw (lt-leb (f .size) (length xs) h)
+
+short-labels : (f : Fixed) (xs ys : List ℕ) → length ys < f .size → lentWhole f xs ys ≡ false
+unfolding lentWhole
+short-labels f xs ys h = rw (lt-leb (f .size) (length ys) h, and-false)
+
+-- Every call's states are so many steps in a row, the last of which is what its answer gives back.
+pub call-row : (k : Kind) (w l : Lent) (s : State) → Ready s
+    → Row s (callStates (record { kind = k; words = w; labels = l }) s) (after (record { kind = k; words = w; labels = l }) s)
+call-row k whole whole s r = whole-row k s r
+call-row k whole (part from count) s r =
+    short-row _ s r (short-labels _ _ _ (part-short _ from count (s .memory .labels) (r .fit .fixed .sizeLow)))
+call-row k (part from count) whole s r =
+    short-row _ s r (short-words _ _ _ (part-short _ from count (s .memory .values) (r .fit .fixed .sizeLow)))
+call-row k (part from count) (part from′ count′) s r =
+    short-row _ s r (short-words _ _ _ (part-short _ from count (s .memory .values) (r .fit .fixed .sizeLow)))
+
+-- After each call the trace's last state is the record and memory that the answer gives back.
+pub call-last : (q : Invocation) (s : State) → Ready s → final s (callStates q s) ≡ after q s
+call-last q s r =
+    let h = call-row (q .kind) (q .words) (q .labels) s r in
+    ap (final s) (h .states) ∙ final-path (h .count) s ∙ sym (h .last)
+
+-- ---- a sequence of calls
+
+-- The trace of a sequence of calls is so many steps in a row.
+pub trace-row : (qs : List Invocation) (s : State) → Ready s → (m : ℕ) × (trace qs s ≡ path m s)
+unfolding trace
+trace-row [] s r = (0, refl)
+trace-row (q ∷ qs) s r =
+    let h = call-row (q .kind) (q .words) (q .labels) s r in
+    let t = subst Ready (sym (h .last)) (steps-ready (h .count) s r) in
+    let g = trace-row qs (after q s) t in (
+      h .count + g .0,
+      ap₂ (λ (xs ys : List State). xs ++ ys) (h .states) (g .1 ∙ ap (path (g .0)) (h .last)) ∙ path-append (h .count) (g .0) s,
+    )
+
+-- ---- the state at a reached tick
+
+-- Past k no state is taken.
+past : (k m : ℕ) (s x : State) → Ready x → k < x .control .clock → atTick k s (path m x) ≡ s
+unfolding atTick
+past k zero s x r h = refl
+past k (suc m) s x r h =
+    let g : k < step x .control .clock = lt-of-lt-of-le h (step-passes x r .rises) in
+    rw (lt-leb (step x .control .clock) k g) (past k m s (step x) (step-ready x r) g)
+
+-- The state at tick k: after so many steps, at which the machine rests, and the provisos of these steps.
+pub record Arrived (ℓ k : ℕ) (s x : State) : Type 0 where
+  pub count : ℕ
+  pub state : x ≡ steps count s
+  pub rests : Rests k (steps count s)
+  pub allowed : Allowed ℓ count s
+
+pub arrive : (ℓ k m : ℕ) (s : State) → Ready s → s .control .clock ≤ k → reached k s (path m s) ≡ true
+    → StepsProvisos ℓ k s (path m s) → Arrived ℓ k s (atTick k s (path m s))
+unfolding atTick reached final StepsProvisos steps
+arrive ℓ k zero s r c h p =
+    record {
+      count = 0;
+      state = refl;
+      rests = record { clock = c; still = inl (not-iff (running s) .0 (rw (le-ltb k (s .control .clock) c) at h)) };
+      allowed = tt;
+    }
+arrive ℓ k (suc m) s r c h p =
+    ⊎-elim
+    (λ (e : leb (step s .control .clock) k ≡ true).
+    let g = leb-true (step s .control .clock) k e in
+    let a = arrive ℓ k m (step s) (step-ready s r) g h (p .1) in
+    record { count = suc (a .count); state = rw e (a .state); rests = a .rests; allowed = (p .0 g, a .allowed) })
+    (λ (e : leb (step s .control .clock) k ≡ false).
+    let g = leb-false (step s .control .clock) k e in
+    record {
+      count = 0;
+      state = rw e (past k m s (step s) (step-ready s r) g);
+      rests = record { clock = c; still = inr g };
+      allowed = tt;
+    })
+    (either (leb (step s .control .clock) k))
