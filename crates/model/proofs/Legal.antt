@@ -122,7 +122,7 @@ ticks-long or visible v = lit≤ tt
 ticks-long xor visible v = lit≤ tt
 ticks-long less visible v = lit≤ tt
 ticks-long multiply true v = omega arith
-ticks-long multiply false v = lit≤ tt
+ticks-long multiply false v = omega arith
 
 -- ---- the op table
 
@@ -271,7 +271,7 @@ module _ (s : State) (typed : Typed s) where
       (λ e. passes (h .long) (h .passes e))
       (λ e. choice (Attempted s) (r .strict && inUpcall (s .control)) _ _
       (λ k. let h = simp and-iff at k in closes (h .1) (lit≤ tt))
-      (λ k. carries (h .long) (writes keeps)))
+      (λ k. carries (omega (arith, h .long)) (writes keeps)))
 
   -- An op tried in time.
   timed : {d : Decision} → Attempted s d → Planned s (inTime s d)

@@ -17,7 +17,7 @@ use Rattle.model.specs.declared.Control.{Control}
 use Rattle.model.specs.Record.{State, Location, register, word, bankOf, indexOf, valueAt, labelAt, newest, inUpcall}
 use Rattle.model.specs.Typed.{Typed, Below}
 use Rattle.model.specs.Ops.{Write, nothing, value, label, Change, write, goto, enter, openUpcall, openGate, closeGate, stop}
-use Rattle.model.specs.Step.{Decision, rest, spend, stall, close, carry, endTick, finish, fetch, plan, beyondLimit, inLimit, running, decide, written, causeWrite, changeWrite, writeOf, changed, restored, controlAfter, apply, step}
+use Rattle.model.specs.Step.{Decision, rest, spend, stall, close, carry, endTick, finish, fetch, plan, beyondLimit, inLimit, running, decide, written, causeAllowed, causeWrite, changeWrite, writeOf, changed, restored, controlAfter, apply, step}
 use Rattle.model.proofs.Truth.{choice, clash}
 use Rattle.model.proofs.Writes.{There, Lengths, lengths, set-at, written-lengths}
 use Rattle.model.proofs.Legal.{_⊑_, Inside, LegalWrite, keeps, sets, marks, LegalChange, writes, goes, enters, calls, gates, returns, stops, Legal, rests, spends, stalls, closes, carries, legal}
@@ -35,9 +35,9 @@ pub record Ready (s : State) : Type 0 where
 
 -- A cause is written to register 15 only where p, by way of t, flows to its label.
 cause-legal : (s : State) (cause : ℕ) → Fit (s .fixed) (s .control) → cause ≤ 3 → LegalWrite s (causeWrite s cause)
-unfolding causeWrite
+unfolding causeWrite causeAllowed
 cause-legal s cause f h =
-    choice (LegalWrite s) (flows (s .control .pair .timing) (labelAt s (register 15))) _ _
+    choice (LegalWrite s) (causeAllowed s) _ _
     (λ e. sets (lit< tt) (flows-trans (valid-flows _ _ _ (f .valid)) (record { holds = e })) (omega arith))
     (λ e. keeps)
 

@@ -132,10 +132,13 @@ written s nothing = s
 written s (value x v) = onLocation s x (setValue v)
 written s (label x l) = onLocation s x (setLabelAt l)
 
+-- The timing label before restoring flows to register 15's label.
+unfoldable pub causeAllowed : State → Bool
+causeAllowed s = flows (s .control .pair .timing) (labelAt s (register 15))
+
 -- Closing an upcall, register 15 gets the cause if t before restoring flows to its label.
 unfoldable pub causeWrite : State → ℕ → Write
-causeWrite s cause =
-    cond (flows (s .control .pair .timing) (labelAt s (register 15))) (value (register 15) cause) nothing
+causeWrite s cause = cond (causeAllowed s) (value (register 15) cause) nothing
 
 -- What a change writes.
 abbrev pub changeWrite : Change → Write

@@ -19,7 +19,7 @@ use Rattle.model.specs.declared.Control.{Control}
 use Rattle.model.specs.Record.{State, Location, register, word, valueAt, labelAt, newest, inUpcall}
 use Rattle.model.specs.Word.{Arithmetic, add, subtract, and, or, xor, less, multiply, Op, immediate, arithmetic, load, store, branch, jump, readClock, setLabel, setPair, upcall, endUpcall, gateCall, gateReturn, halt, aField, bField, cField, dField, nField, decode, opField}
 use Rattle.model.specs.Ops.{Write, nothing, value, label, Change, write, goto, enter, openUpcall, openGate, closeGate, stop, Effect, does, ends, Row, row, noGate, newPairAllowed, mayUpcall, mayCallGate, mayReturn, multiplyTicks, arithmeticTicks, Rb, table}
-use Rattle.model.specs.Step.{Fetched, failed, fetched, known, fetch, Decision, rest, spend, stall, close, carry, endTick, finish, fault, passed, attempt, inTime, plan, beyondLimit, inLimit, running, decide, causeWrite, changeWrite, writeOf, written, withControl, restored, changed, controlAfter, apply, step}
+use Rattle.model.specs.Step.{Fetched, failed, fetched, known, fetch, Decision, rest, spend, stall, close, carry, endTick, finish, fault, passed, attempt, inTime, plan, beyondLimit, inLimit, running, decide, causeAllowed, causeWrite, changeWrite, writeOf, written, withControl, restored, changed, controlAfter, apply, step}
 use Rattle.model.specs.Seen.{within, exists}
 use Rattle.model.specs.Noninterference.{SameSetting, StepProvisos, downgrades}
 use Rattle.model.proofs.Truth.{either, clash, and-iff, not-iff, same-outcome}
@@ -244,7 +244,7 @@ module _ {ℓ : ℕ} {c : Control} {a b : State} (h : Together ℓ c a b) where
   -- A cause that is written within sight is written in both.
   cause-there : (k : ℕ) → Visible ℓ (withControl a c) (causeWrite (withControl a c) k)
       → causeWrite (withControl b c) k ≡ causeWrite (withControl a c) k
-  unfolding causeWrite
+  unfolding causeWrite causeAllowed
   cause-there k v = go (flows (c .pair .timing) (labelAt (withControl a c) (register 15))) refl v
     where
       go : (x : Bool) → flows (c .pair .timing) (labelAt (withControl a c) (register 15)) ≡ x
