@@ -6,6 +6,9 @@ pub mod Word
 pub mod Ops
 pub mod Step
 pub mod Answer
+pub mod Text
+pub mod Load
+pub mod Listing
 -- ======== Here the definition of the machine ends. Everything else, here and in proofs/, is derived from it.
 pub mod Typed
 pub mod Facts

@@ -1,6 +1,8 @@
 // The parts of the machine record. The crate has no function: it holds the definitions of the machine, in specs/, and
 // the laws about them, in proofs/. The crate `machine` puts the parts together and runs them.
 
+pub mod format;
+
 // A pc label and a timing label (the paper's place label p and clock label t).
 pub struct Pair {
     pub pc: u8,
