@@ -132,9 +132,10 @@ module _ (s : State) (typed : Typed s) (w : ℕ) where
   unfolding valueAt Below
   reads k = typed .values k
 
-  reads-word : (k : ℕ) → valueAt s (word k) < 2 ^ 32
-  unfolding valueAt Below
-  reads-word k = typed .words k
+  -- So has the value of a word.
+  reads-word : (k : ℕ) → k < s .fixed .size → valueAt s (word k) < 2 ^ 32
+  unfolding valueAt
+  reads-word k h = typed .words k h
 
   n-lt : nField w < 2 ^ 32
   unfolding nField
@@ -168,7 +169,7 @@ module _ (s : State) (typed : Typed s) (w : ℕ) where
       record {
         long = lit≤ tt;
         passes = λ e. let h = simp (and-iff, join-flows) at e in
-            sets-a (record { holds = h .1 .0 .0 }) (reads-word _);
+            sets-a (record { holds = h .1 .0 .0 }) (reads-word _ (ltb-true _ _ (h .0)));
       }
   row-legal store =
       record {

@@ -4,5 +4,6 @@ pub mod Legal
 pub mod WellFormed
 pub mod Step
 pub mod Run
+pub mod Load
 pub mod Facts
 pub mod Noninterference

@@ -19,11 +19,13 @@ use borrow.Author.Tests.{leb-true}
 use Rattle.model.specs.declared.Control.{Control}
 use Rattle.model.specs.Record.{State, isUpcall, isEmpty, newest, inUpcall}
 use Rattle.model.specs.WellFormed.{lentWhole}
+use Rattle.model.specs.Load.{load}
 use Rattle.model.specs.Seen.{LowEquivalent}
-use Rattle.model.specs.Noninterference.{Invocation, trace, atTick, reached, Provisos, Loaded, Noninterference}
+use Rattle.model.specs.Noninterference.{Invocation, trace, atTick, reached, Provisos, Loaded, FromLoadedStates, stateOfLoad, Noninterference}
 use Rattle.model.proofs.Truth.{and-iff}
 use Rattle.model.proofs.WellFormed.{fit}
 use Rattle.model.proofs.Step.{Ready}
+use Rattle.model.proofs.Load.{load-loaded}
 use Rattle.model.proofs.Noninterference.Paths.{Both, at-one-tick}
 use Rattle.model.proofs.Noninterference.Trace.{path, Arrived, arrive, trace-row}
 
@@ -52,9 +54,9 @@ arrived ℓ k s l qs p h =
     let (m, e) = trace-row qs s r in
     rw e (arrive ℓ k m s r (rw (l .clock) (omega arith)) (rw e at h) (rw e at (p .steps)))
 
--- The two are alike at or below ℓ at every tick that both have reached.
-pub noninterference : Noninterference
-noninterference ℓ k s t l m same low qs rs p q h g =
+-- From two loaded states: the two are alike at or below ℓ at every tick that both have reached.
+pub from-loaded-states : FromLoadedStates
+from-loaded-states ℓ k s t l m same low qs rs p q h g =
     let a = arrived ℓ k s l qs p h in
     let b = arrived ℓ k t m rs q g in
     rw (a .state, b .state)
@@ -66,3 +68,9 @@ noninterference ℓ k s t l m same low qs rs p q h g =
       alike = record { size = same .size; seen = low .locations };
     })
     (p .loaded) (low .control) (loaded-outside s l) (loaded-outside t m) (a .allowed) (b .allowed) (a .rests) (b .rests))
+
+-- From two accepted loads: the third demand.
+pub noninterference : Noninterference
+noninterference ℓ k text text′ memory memory′ a b =
+    from-loaded-states ℓ k (stateOfLoad (load text memory)) (stateOfLoad (load text′ memory′)) (load-loaded text memory a)
+    (load-loaded text′ memory′ b)

@@ -13,6 +13,7 @@ use lib.Seq.{drop-set-lt}
 use borrow.Author.Tests.{eq-eqb}
 use Rattle.labels.specs.Label.{flows}
 use Rattle.labels.proofs.Laws.{Flows, flows-trans, valid-flows}
+use Rattle.model.specs.declared.Fixed.{Fixed}
 use Rattle.model.specs.declared.Control.{Control}
 use Rattle.model.specs.Record.{State, Location, register, word, bankOf, indexOf, valueAt, labelAt, newest, inUpcall}
 use Rattle.model.specs.Typed.{Typed, Below}
@@ -72,21 +73,21 @@ pub step-lengths : (s : State) → lengths (step s) ≡ lengths s
 unfolding step apply
 step-lengths s = written-lengths s (writeOf s (decide s))
 
--- A list with a number below k set keeps below k.
-below-set : {k : ℕ} (xs : List ℕ) (i v : ℕ) → i < length xs → v < k → Below k xs → Below k (set xs i v)
-unfolding Below
-below-set {k} xs i v h lt b j =
-    rw (set-at xs i j v h) (choice (λ (x : ℕ). x < k) (eqb i j) v (getD xs j 0) (λ e. lt) (λ e. b j))
+-- What stands at j is below n after a number below n is set.
+pub below-set : {n : ℕ} (xs : List ℕ) (i v j : ℕ) → i < length xs → v < n → getD xs j 0 < n → getD (set xs i v) j 0 < n
+below-set {n} xs i v j h lt b =
+    rw (set-at xs i j v h) (choice (λ (x : ℕ). x < n) (eqb i j) v (getD xs j 0) (λ e. lt) (λ e. b))
 
 -- Registers and words keep to 32 bits.
 written-below : (s : State) → Ready s → {w : Write} → LegalWrite s w
-    → Below (2 ^ 32) (written s w .registers .values) × Below (2 ^ 32) (written s w .memory .values)
-unfolding written
+    → ((k : ℕ) → getD (written s w .registers .values) k 0 < 2 ^ 32)
+    × ((k : ℕ) → k < s .fixed .size → getD (written s w .memory .values) k 0 < 2 ^ 32)
+unfolding written Below
 written-below s r keeps = (r .typed .values, r .typed .words)
 written-below s r (sets {x = register k} {v = v} h p lt) =
-    (below-set (s .registers .values) k v (there s r (register k) h .value) lt (r .typed .values), r .typed .words)
+    (λ j. below-set (s .registers .values) k v j (there s r (register k) h .value) lt (r .typed .values j), r .typed .words)
 written-below s r (sets {x = word k} {v = v} h p lt) =
-    (r .typed .values, below-set (s .memory .values) k v (there s r (word k) h .value) lt (r .typed .words))
+    (r .typed .values, λ j g. below-set (s .memory .values) k v j (there s r (word k) h .value) lt (r .typed .words j g))
 written-below s r (marks {x = register k} h p l) = (r .typed .values, r .typed .words)
 written-below s r (marks {x = word k} h p l) = (r .typed .values, r .typed .words)
 
@@ -114,7 +115,7 @@ step-beyond s r = written-beyond s (step-write s r)
 
 -- A step of a ready state gives a ready state.
 pub step-ready : (s : State) → Ready s → Ready (step s)
-unfolding step apply
+unfolding step apply Below
 step-ready s r =
     let b = written-below s r (step-write s r) in
     let n = step-lengths s in
@@ -123,7 +124,7 @@ step-ready s r =
       typed =
           record {
             values = b .0;
-            words = b .1;
+            words = λ k h. b .1 k (subst (λ (f : Fixed). k < f .size) (step-fixed s) h);
             registers = ap (λ (x : Lengths). x .values) n ∙ r .typed .registers;
             labels = ap (λ (x : Lengths). x .labels) n ∙ r .typed .labels;
           };

@@ -15,6 +15,7 @@ use Rattle.model.specs.Typed.{Typed}
 use Rattle.model.specs.Ops.{Change, write, goto, enter, openUpcall, openGate, closeGate, stop, noGate}
 use Rattle.model.specs.Step.{Decision, rest, spend, stall, close, carry, running, decide, step}
 use Rattle.model.specs.Answer.{Answer, stepAnswer, runAnswer}
+use Rattle.model.specs.Load.{Loading, load}
 use Rattle.model.specs.Seen.{within, exists, LowEquivalent}
 
 -- ---- a sequence of calls
@@ -168,11 +169,31 @@ pub record SameSetting (s t : State) : Type 0 where
   pub count : s .fixed .count ≡ t .fixed .count
   pub gates : (k : ℕ) → k < s .fixed .count → getD (s .fixed .gates) k noGate ≡ getD (t .fixed .gates) k noGate
 
--- For any label ℓ and any tick k, and two loaded states with equal setting that are alike at or below ℓ: whatever
--- sequence of calls each then gets, if both meet the provisos up to k and both have reached k, the two are alike at or
--- below ℓ at k.
+-- From two such states: for any label ℓ and any tick k, and two loaded states with equal setting that are alike at or
+-- below ℓ, whatever sequence of calls each then gets, if both meet the provisos up to k and both have reached k, the two
+-- are alike at or below ℓ at k.
+abbrev pub FromLoadedStates : Type 0
+FromLoadedStates =
+    (ℓ k : ℕ) (s t : State) → Loaded s → Loaded t → SameSetting s t → LowEquivalent ℓ s t → (qs rs : List Invocation)
+    → Provisos ℓ k s (trace qs s) → Provisos ℓ k t (trace rs t) → reached k s (trace qs s) ≡ true
+    → reached k t (trace rs t) ≡ true → LowEquivalent ℓ (atTick k s (trace qs s)) (atTick k t (trace rs t))
+
+-- The state that a load leaves: its record and memory.
+abbrev pub stateOfLoad : Loading → State
+stateOfLoad a = stateOf (a .machine) (a .memory)
+
+-- The load is accepted.
+abbrev pub Accepted : Loading → Type 0
+Accepted a = a .number ≡ 0
+
+-- The third demand. Take any label ℓ, any tick k, and any two texts that load accepts, each in its own lent memory, whose
+-- states have equal setting and are alike at or below ℓ. Whatever sequences of calls the two then get, the same or not: if
+-- both meet the provisos up to k and both have reached k, the two are alike at or below ℓ at k.
 abbrev pub Noninterference : Type 0
 Noninterference =
-    (ℓ k : ℕ) (s t : State) → Loaded s → Loaded t → SameSetting s t → LowEquivalent ℓ s t → (qs rs : List Invocation)
-    → Provisos ℓ k s (trace qs s) → Provisos ℓ k t (trace rs t) → reached k s (trace qs s) ≡ true → reached k t (trace rs t) ≡ true
-    → LowEquivalent ℓ (atTick k s (trace qs s)) (atTick k t (trace rs t))
+    (ℓ k : ℕ) (text text′ : List ℕ) (memory memory′ : Bank) → Accepted (load text memory) → Accepted (load text′ memory′)
+    → (let s = stateOfLoad (load text memory) in
+    let t = stateOfLoad (load text′ memory′) in
+    SameSetting s t → LowEquivalent ℓ s t → (qs rs : List Invocation)
+    → Provisos ℓ k s (trace qs s) → Provisos ℓ k t (trace rs t) → reached k s (trace qs s) ≡ true
+    → reached k t (trace rs t) ≡ true → LowEquivalent ℓ (atTick k s (trace qs s)) (atTick k t (trace rs t)))

@@ -11,9 +11,9 @@ unfoldable pub Below : ℕ → List ℕ → Type 0
 Below k xs = (i : ℕ) → getD xs i 0 < k
 
 -- What the types of the code say of a state's lists: sixteen registers and sixteen labels of theirs, and 32 bits for
--- the value of a register or a word.
+-- the value of a register and of a word below the size.
 pub record Typed (s : State) : Type 0 where
   pub values : Below (2 ^ 32) (s .registers .values)
-  pub words : Below (2 ^ 32) (s .memory .values)
+  pub words : (k : ℕ) → k < s .fixed .size → getD (s .memory .values) k 0 < 2 ^ 32
   pub registers : length (s .registers .values) ≡ 16
   pub labels : length (s .registers .labels) ≡ 16
