@@ -54,28 +54,28 @@ unfolding gateInRange
 gate-in-order r m pc p t h e =
     let k = simp and-iff at e in
     let c = ltb-true (r .fixed .count) 8 (k .1) in
-    record
-      { fixed =
-          record
-            { sizeLow = h .fixed .sizeLow
-            ; sizeHigh = h .fixed .sizeHigh
-            ; limitLow = h .fixed .limitLow
-            ; limitHigh = h .fixed .limitHigh
-            ; gates = omega arith
-            }
-      ; valid = h .valid
-      ; clock = h .clock
-      ; first = h .first
-      ; second = h .second
-      ; end = h .end
-      ; why = h .why
-      ; values = h .values
-      ; registers = h .registers
-      ; labels = h .labels
-      ; words = h .words
-      ; lentWords = h .lentWords
-      ; lentLabels = h .lentLabels
-      }
+    record {
+      fixed =
+          record {
+            sizeLow = h .fixed .sizeLow;
+            sizeHigh = h .fixed .sizeHigh;
+            limitLow = h .fixed .limitLow;
+            limitHigh = h .fixed .limitHigh;
+            gates = omega arith;
+          };
+      valid = h .valid;
+      clock = h .clock;
+      first = h .first;
+      second = h .second;
+      end = h .end;
+      why = h .why;
+      values = h .values;
+      registers = h .registers;
+      labels = h .labels;
+      words = h .words;
+      lentWords = h .lentWords;
+      lentLabels = h .lentLabels;
+    }
 
 -- One register set.
 register-in-order : (r : Machine) (m : Bank) (k l v : ℕ) → InOrder r m → entryInRange 16 k l v ≡ true
@@ -83,22 +83,22 @@ register-in-order : (r : Machine) (m : Bank) (k l v : ℕ) → InOrder r m → e
 unfolding entryInRange
 register-in-order r m k l v h e =
     let q = simp and-iff at e in
-    record
-      { fixed = h .fixed
-      ; valid = h .valid
-      ; clock = h .clock
-      ; first = h .first
-      ; second = h .second
-      ; end = h .end
-      ; why = h .why
-      ; values =
-          λ j. below-set (r .registers .values) k v j (rw (h .registers) (ltb-true k 16 (q .0 .0))) (ltb-true v (2 ^ 32) (q .1)) (h .values j)
-      ; registers = length-set (r .registers .values) k v ∙ h .registers
-      ; labels = length-set (r .registers .labels) k l ∙ h .labels
-      ; words = h .words
-      ; lentWords = h .lentWords
-      ; lentLabels = h .lentLabels
-      }
+    record {
+      fixed = h .fixed;
+      valid = h .valid;
+      clock = h .clock;
+      first = h .first;
+      second = h .second;
+      end = h .end;
+      why = h .why;
+      values =
+          λ j. below-set (r .registers .values) k v j (rw (h .registers) (ltb-true k 16 (q .0 .0))) (ltb-true v (2 ^ 32) (q .1)) (h .values j);
+      registers = length-set (r .registers .values) k v ∙ h .registers;
+      labels = length-set (r .registers .labels) k l ∙ h .labels;
+      words = h .words;
+      lentWords = h .lentWords;
+      lentLabels = h .lentLabels;
+    }
 
 -- One word set.
 word-in-order : (r : Machine) (m : Bank) (k l v : ℕ) → InOrder r m → entryInRange (r .fixed .size) k l v ≡ true
@@ -106,23 +106,23 @@ word-in-order : (r : Machine) (m : Bank) (k l v : ℕ) → InOrder r m → entry
 unfolding entryInRange
 word-in-order r m k l v h e =
     let q = simp and-iff at e in
-    record
-      { fixed = h .fixed
-      ; valid = h .valid
-      ; clock = h .clock
-      ; first = h .first
-      ; second = h .second
-      ; end = h .end
-      ; why = h .why
-      ; values = h .values
-      ; registers = h .registers
-      ; labels = h .labels
-      ; words =
+    record {
+      fixed = h .fixed;
+      valid = h .valid;
+      clock = h .clock;
+      first = h .first;
+      second = h .second;
+      end = h .end;
+      why = h .why;
+      values = h .values;
+      registers = h .registers;
+      labels = h .labels;
+      words =
           λ j g. below-set (m .values) k v j (lt-of-lt-of-le (ltb-true k (r .fixed .size) (q .0 .0)) (h .lentWords))
-          (ltb-true v (2 ^ 32) (q .1)) (h .words j g)
-      ; lentWords = rw (length-set (m .values) k v) (h .lentWords)
-      ; lentLabels = rw (length-set (m .labels) k l) (h .lentLabels)
-      }
+          (ltb-true v (2 ^ 32) (q .1)) (h .words j g);
+      lentWords = rw (length-set (m .values) k v) (h .lentWords);
+      lentLabels = rw (length-set (m .labels) k l) (h .lentLabels);
+    }
 
 -- ---- the lines
 
@@ -205,28 +205,28 @@ header-in-order : (size errorpc pc p t limit : ℕ) (m : Bank) → headerInRange
 unfolding headerInRange cleared
 header-in-order size errorpc pc p t limit m e v =
     let h = simp and-iff at e in
-    record
-      { fixed =
-          record
-            { sizeLow = leb-true 1 size (h .0 .0 .0 .0 .0 .0 .0)
-            ; sizeHigh = leb-true size 2048 (h .0 .0 .0 .0 .0 .0 .1)
-            ; limitLow = leb-true 1 limit (h .0 .1)
-            ; limitHigh = leb-true limit (2 ^ 24) (h .1)
-            ; gates = lit≤ tt
-            }
-      ; valid = v
-      ; clock = refl
-      ; first = refl
-      ; second = refl
-      ; end = refl
-      ; why = refl
-      ; values = blank-registers
-      ; registers = refl
-      ; labels = refl
-      ; words = blank-words size (m .values)
-      ; lentWords = blank-lent size 0 (m .values)
-      ; lentLabels = blank-lent size _ (m .labels)
-      }
+    record {
+      fixed =
+          record {
+            sizeLow = leb-true 1 size (h .0 .0 .0 .0 .0 .0 .0);
+            sizeHigh = leb-true size 2048 (h .0 .0 .0 .0 .0 .0 .1);
+            limitLow = leb-true 1 limit (h .0 .1);
+            limitHigh = leb-true limit (2 ^ 24) (h .1);
+            gates = lit≤ tt;
+          };
+      valid = v;
+      clock = refl;
+      first = refl;
+      second = refl;
+      end = refl;
+      why = refl;
+      values = blank-registers;
+      registers = refl;
+      labels = refl;
+      words = blank-words size (m .values);
+      lentWords = blank-lent size 0 (m .values);
+      lentLabels = blank-lent size _ (m .labels);
+    }
 
 -- ---- the load
 
@@ -234,22 +234,22 @@ header-in-order size errorpc pc p t limit m e v =
 in-order-loaded : (r : Machine) (m : Bank) → InOrder r m → Loaded (stateOf r m)
 unfolding running lentWhole Below
 in-order-loaded r m h =
-    record
-      { wellFormed = fits (stateOf r m)
-          (record
-            { fixed = h .fixed
-            ; end = unfold endInRange in rw (h .end, h .why)
-            ; clock = rw (h .clock) zero-le
-            ; valid = h .valid
-            ; calls = rw (h .first, h .second) none
-            })
-      ; running = rw (h .end)
-      ; clock = h .clock
-      ; first = h .first
-      ; second = h .second
-      ; lent = rw (le-leb _ _ (h .lentWords), le-leb _ _ (h .lentLabels))
-      ; typed = record { values = h .values; words = h .words; registers = h .registers; labels = h .labels }
-      }
+    record {
+      wellFormed = fits (stateOf r m)
+          (record {
+            fixed = h .fixed;
+            end = unfold endInRange in rw (h .end, h .why);
+            clock = rw (h .clock) zero-le;
+            valid = h .valid;
+            calls = rw (h .first, h .second) none;
+          });
+      running = rw (h .end);
+      clock = h .clock;
+      first = h .first;
+      second = h .second;
+      lent = rw (le-leb _ _ (h .lentWords), le-leb _ _ (h .lentLabels));
+      typed = record { values = h .values; words = h .words; registers = h .registers; labels = h .labels };
+    }
 
 -- So it is with every verdict.
 judge-numbered : (g : Progress) (n : ℕ) (ls : List Line) → Numbered (judge g n ls)
@@ -291,9 +291,9 @@ header-loaded size errorpc pc p t limit ls m h v e =
     let g : Progress = record { machine = machineOfHeader size errorpc pc p t limit; kind = 1; least = 0 } in
     settled (judge g 2 ls) ls m (judge-numbered g 2 ls)
     (λ r q.
-      in-order-loaded r (fill ls (cleared (r .fixed .size) m))
-      (subst (λ (n : ℕ). InOrder r (fill ls (cleared n m))) (judge-size g 2 ls r q)
-      (judged g 2 ls (cleared size m) r q (header-in-order size errorpc pc p t limit m h v))))
+    in-order-loaded r (fill ls (cleared (r .fixed .size) m))
+    (subst (λ (n : ℕ). InOrder r (fill ls (cleared n m))) (judge-size g 2 ls r q)
+    (judged g 2 ls (cleared size m) r q (header-in-order size errorpc pc p t limit m h v))))
     e
 
 -- The lines of an accepted text leave a loaded state.
@@ -302,12 +302,12 @@ lines-loaded [] m = λ e. absurd (omega arith)
 lines-loaded (M size errorpc pc p t limit ∷ ls) m =
     choice Leaves (headerInRange size errorpc pc p t limit) _ _
     (λ h.
-      choice Leaves (isValid (record { pc = p; timing = t })) _ _
-      (λ v.
-        choice Leaves (lentWhole (machineOfHeader size errorpc pc p t limit .fixed) (m .values) (m .labels)) _ _
-        (λ l. header-loaded size errorpc pc p t limit ls m h v)
-        (λ l e. absurd (omega arith)))
-      (λ v e. absurd (omega arith)))
+    choice Leaves (isValid (record { pc = p; timing = t })) _ _
+    (λ v.
+    choice Leaves (lentWhole (machineOfHeader size errorpc pc p t limit .fixed) (m .values) (m .labels)) _ _
+    (λ l. header-loaded size errorpc pc p t limit ls m h v)
+    (λ l e. absurd (omega arith)))
+    (λ v e. absurd (omega arith)))
     (λ h e. absurd (omega arith))
 lines-loaded (G a b c ∷ ls) m = λ e. absurd (omega arith)
 lines-loaded (R a b c ∷ ls) m = λ e. absurd (omega arith)

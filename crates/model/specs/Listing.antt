@@ -73,12 +73,12 @@ listing s =
 pub record Printing : Type 0 where
   pub number : ℕ
   pub machine : Machine
-  pub length : ℕ
+  pub bytes : ℕ
   pub output : List ℕ
 
 -- A refusal leaves the output.
 abbrev pub notPrinted : ℕ → Machine → List ℕ → Printing
-notPrinted number r out = record { number = number; machine = r; length = 0; output = out }
+notPrinted number r out = record { number = number; machine = r; bytes = 0; output = out }
 
 -- Print: 7 where the record is not fit, 6 where lent words or labels are shorter than the size, 8 where the output is
 -- shorter than the listing. Output beyond the listing stays.
@@ -88,7 +88,7 @@ print r m out =
     cond (wellFormed r)
     (cond (lentWhole (r .fixed) (m .values) (m .labels))
     (cond (leb (length text) (length out))
-    (record { number = 0; machine = r; length = length text; output = text ++ drop (length text) out })
+    (record { number = 0; machine = r; bytes = length text; output = text ++ drop (length text) out })
     (notPrinted 8 r out))
     (notPrinted 6 r out))
     (notPrinted 7 r out)

@@ -51,11 +51,13 @@ pub record Row : Type 0 where
   pub ticks : ℕ
   pub strict : Bool
 
--- A row whose failed check only adds 1 to the pc, in an upcall too. (A departure from the source, which stalls there.)
+-- A row whose failed check only adds 1 to the pc, in an upcall too. A departure from the source, which stalls there:
+-- for a destination check that shows a label raised in an earlier hidden call.
 abbrev pub row : Bool → Effect → ℕ → Row
 row check effect ticks = record { check = check; effect = effect; ticks = ticks; strict = false }
 
--- A row whose failed check closes an upcall: ops 11, 12, 13 and 22.
+-- A row whose failed check closes an upcall: ops 11, 12, 13 and 22. A departure: only a failed fetch, branch or jump, or
+-- a halt, closes the call.
 abbrev pub strictRow : Bool → Effect → ℕ → Row
 strictRow check effect ticks = record { check = check; effect = effect; ticks = ticks; strict = true }
 
@@ -180,7 +182,8 @@ module _ (s : State) (w : ℕ) where
   abbrev pub sets : ℕ → Effect
   sets v = does (write (value (register (aField w)) v))
 
-  -- The table: an op's check, effect and ticks.
+  -- The table: an op's check, effect and ticks. Two departures from the source: op 17 works at any depth, and the time of
+  -- an upcall (op 18) starts after its own ticks.
   unfoldable pub table : Op → Row
   table immediate = row (flows p La) (sets (nField w)) 1
   table (arithmetic f) =

@@ -53,7 +53,8 @@ pub data Decision : Type 0 where
 unfoldable pub endTick : State → ℕ
 endTick s = endTickOf (newest (s .control))
 
--- The clock that a decision leaves: the clock and the ticks; where it closes an upcall the end tick + 1.
+-- The clock that a decision leaves: the clock and the ticks; where it closes an upcall the end tick + 1, one tick past
+-- its time (a departure from the source).
 unfoldable pub finish : State → Decision → ℕ
 finish s rest = s .control .clock
 finish s spend = s .fixed .limit
@@ -79,7 +80,8 @@ attempt s r =
     cond (r .check) (passed (r .ticks) (r .effect))
     (cond (r .strict && inUpcall (s .control)) (close 3) (carry (r .ticks) (write nothing)))
 
--- In an upcall an op that would finish past the end tick isn't carried out: cause 2.
+-- In an upcall an op that would finish past the end tick isn't carried out: cause 2. A departure: spent time goes to the
+-- return pc, not to a handler.
 abbrev pub inTime : State → Decision → Decision
 inTime s rest = rest
 inTime s spend = spend
@@ -136,7 +138,8 @@ written s (label x l) = onLocation s x (setLabelAt l)
 unfoldable pub causeAllowed : State → Bool
 causeAllowed s = flows (s .control .pair .timing) (labelAt s (register 15))
 
--- Closing an upcall, register 15 gets the cause if t before restoring flows to its label.
+-- Closing an upcall, register 15 gets the cause if t before restoring flows to its label. A departure: the status is
+-- this register.
 unfoldable pub causeWrite : State → ℕ → Write
 causeWrite s cause = cond (causeAllowed s) (value (register 15) cause) nothing
 

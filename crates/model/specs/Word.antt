@@ -1,5 +1,6 @@
 -- A word of the program, taken apart: document 01, "One step", its first paragraph. A word is
--- op × 2^24 + a × 2^20 + b × 2^16 + n; c is n's top four bits and d the next four. Unused bits are ignored.
+-- op × 2^24 + a × 2^20 + b × 2^16 + n; c is n's top four bits and d the next four. Unused bits are ignored. A pc
+-- counts words (a departure from the source).
 -- Assumes nothing.
 use Prim.Native.Nat.{ℕ, zero, suc, _+_, _-_, _*_, _/_, _%_, _^_}
 use mathlib.Core.Bool.{cond}

@@ -1,0 +1,272 @@
+//! The faults of a line, and putting them into the lines of a good image.
+
+use super::labels;
+use super::random::Random;
+use crate::draft::Draft;
+
+/// The faults that a line can have, in the order in which they are tried: "a
+/// line is tried for 2, 4 (kind), 3, 4 (rising), then 5".
+#[derive(Clone, Copy, Debug, PartialEq, Eq)]
+pub enum Fault {
+    Form,
+    Kind,
+    Range,
+    Rising,
+    Pair,
+}
+use Fault::{Form, Kind, Pair, Range, Rising};
+
+/// The lines of an image, each cut into its fields, while being damaged.
+pub struct Lines {
+    pub lines: Vec<Vec<String>>,
+    pub names: Vec<String>,
+}
+
+/// The refusal's number for each fault.
+pub fn number(fault: Fault) -> u8 {
+    match fault {
+        Form => 2,
+        Range => 3,
+        Kind | Rising => 4,
+        Pair => 5,
+    }
+}
+
+impl Lines {
+    /// A good image with at least three R and three W lines, its lines cut into
+    /// fields.
+    pub fn good(random: &mut Random, gates: u32) -> Lines {
+        let size = random.between(8, 60);
+        let pair = labels::valid_pair(random);
+        let limit = u64::from(random.between(1, 300));
+        let (error_pc, pc) = (random.below(size + 2), random.below(size + 2));
+        let mut draft = Draft::new(size as usize, error_pc, pc, pair, limit);
+        for _ in 0..gates {
+            draft.gate(random.bits(), random.bits() as u8, random.bits() as u8);
+        }
+        for index in 0..random.between(3, 6) as usize {
+            draft.register(2 * index + 1, random.bits() as u8, random.bits() | 1);
+        }
+        for index in 0..random.between(3, 7) as usize {
+            draft.word(index + random.index(2), random.bits() as u8, random.bits() | 1);
+        }
+        draft.word(7, 240, random.bits() | 1);
+        let cut = |line: &String| line.split(',').map(str::to_string).collect();
+        Lines { lines: draft.lines().iter().map(cut).collect(), names: Vec::new() }
+    }
+
+    fn letter(&self, line: usize) -> &str {
+        &self.lines[line][0]
+    }
+
+    /// Whether a line can have a fault: the pair is on the first line, a kind
+    /// can be out of order after it, and a number can fail to rise behind
+    /// another of its kind.
+    fn takes(&self, line: usize, fault: Fault) -> bool {
+        match fault {
+            Form | Range => true,
+            Kind => line > 0,
+            Rising => {
+                let letter = self.letter(line);
+                (letter == "R" || letter == "W") && self.letter(line - 1) == letter
+            }
+            Pair => line == 0,
+        }
+    }
+
+    /// A line from `first` on that can have all the faults.
+    fn line_for(&self, random: &mut Random, first: usize, faults: &[Fault]) -> usize {
+        let takes_all = |&line: &usize| faults.iter().all(|&fault| self.takes(line, fault));
+        let lines: Vec<usize> = (first..self.lines.len()).filter(takes_all).collect();
+        // The first line is one of many, yet it has the most to go wrong.
+        if lines[0] == 0 && random.chance(35) {
+            return 0;
+        }
+        random.pick(&lines)
+    }
+
+    /// Puts faults on one line and gives its index.
+    pub fn put(&mut self, random: &mut Random, faults: &[Fault]) -> usize {
+        let line = self.line_for(random, 0, faults);
+        self.apply(random, line, faults);
+        line
+    }
+
+    /// Puts a fault on a line and another on a later one; gives the first line.
+    pub fn put_two(&mut self, random: &mut Random, fault: Fault, other: Fault) -> usize {
+        loop {
+            let line = self.line_for(random, 0, &[fault]);
+            let has_later = (line + 1..self.lines.len()).any(|later| self.takes(later, other));
+            if has_later {
+                let later = self.line_for(random, line + 1, &[other]);
+                self.apply(random, later, &[other]);
+                self.apply(random, line, &[fault]);
+                return line;
+            }
+        }
+    }
+
+    /// A ninth G behind the eight, or behind a later line, or of bad form.
+    pub fn add_ninth_gate(&mut self, random: &mut Random, fault: Option<Fault>) -> (u8, usize) {
+        let fields: Vec<String> = "G,0,240,240".split(',').map(str::to_string).collect();
+        let behind_gates = 9;
+        let line = match fault {
+            Some(Kind) => random.between(behind_gates + 1, self.lines.len() as u32) as usize,
+            _ => behind_gates as usize,
+        };
+        self.lines.insert(line, fields);
+        if let Some(Form) = fault {
+            self.apply(random, line, &[Form]);
+        }
+        (fault.map_or(3, number), line + 1)
+    }
+
+    /// Applies the faults to a line. The kind is changed before the fields, and
+    /// the form last and on a field that has no other fault.
+    pub fn apply(&mut self, random: &mut Random, line: usize, faults: &[Fault]) {
+        let has = |fault: Fault| faults.contains(&fault);
+        if has(Kind) {
+            self.break_kind(random, line);
+        }
+        if has(Pair) {
+            self.break_pair(random, line);
+        }
+        if has(Rising) {
+            self.break_rising(random, line);
+        }
+        let mut spoilt = if has(Pair) { vec![4, 5] } else { Vec::new() };
+        if has(Rising) {
+            spoilt.push(1);
+        }
+        if has(Range) {
+            spoilt.push(self.break_range(random, line, &spoilt));
+        }
+        if has(Form) {
+            self.break_form(random, line, &spoilt);
+        }
+    }
+
+    /// A second M, or a G or an R behind a later kind.
+    fn break_kind(&mut self, random: &mut Random, line: usize) {
+        let mut choices = vec!["M,8,7,0,240,240,100"];
+        let rank = |letter: &str| "MGRW".find(letter).unwrap_or(0);
+        let previous = rank(self.letter(line - 1));
+        if previous > rank("G") {
+            choices.push("G,3,240,240");
+        }
+        if previous > rank("R") {
+            choices.push("R,15,240,1");
+        }
+        let choice = random.pick(&choices);
+        let before = self.letter(line - 1).to_string();
+        self.names.push(format!("kind fault: {} behind {before}", &choice[..1]));
+        self.lines[line] = choice.split(',').map(str::to_string).collect();
+    }
+
+    fn break_pair(&mut self, random: &mut Random, line: usize) {
+        let pair = labels::invalid_pair(random);
+        let (p, t) = (pair.pc, pair.timing);
+        if !p.flows_to(t) {
+            self.names.push("pair fault: p doesn't flow to t".to_string());
+        }
+        if !p.is_sound() {
+            self.names.push("pair fault: p isn't sound".to_string());
+        }
+        if !t.is_sound() {
+            self.names.push("pair fault: t isn't sound".to_string());
+        }
+        self.lines[line][4] = p.0.to_string();
+        self.lines[line][5] = t.0.to_string();
+    }
+
+    /// The number of the line before, or a smaller one.
+    fn break_rising(&mut self, random: &mut Random, line: usize) {
+        let previous: u32 = self.lines[line - 1][1].parse().unwrap_or(0);
+        let number = if random.chance(50) { previous } else { random.below(previous + 1) };
+        let how = if number == previous { "equal" } else { "falling" };
+        self.names.push(format!("rising fault: {} {how}", self.letter(line)));
+        self.lines[line][1] = number.to_string();
+    }
+
+    /// Puts a field out of its range, at its edge or far off; gives the field.
+    fn break_range(&mut self, random: &mut Random, line: usize, spoilt: &[usize]) -> usize {
+        let size = self.lines[0][1].clone();
+        let (word, label) = ("4294967296", "256");
+        let edges: &[&[&str]] = match self.letter(line) {
+            "M" => &[&["0", "2049"], &[word], &[word], &[label], &[label], &["0", "16777217"]],
+            "G" => &[&[word], &[label], &[label]],
+            "R" => &[&["16"], &[label], &[word]],
+            _ => &[&[&size], &[label], &[word]],
+        };
+        let fields = 1..self.lines[line].len();
+        let free: Vec<usize> = fields.filter(|field| !spoilt.contains(field)).collect();
+        let field = random.pick(&free);
+        let edge = random.pick(edges[field - 1]);
+        let value = if random.chance(25) { "9999999999" } else { edge };
+        self.names.push(format!("range fault: {} field {field}", self.letter(line)));
+        self.lines[line][field] = value.to_string();
+        field
+    }
+
+    /// Spoils the letter, the number of fields, or the digits of a field.
+    fn break_form(&mut self, random: &mut Random, line: usize, spoilt: &[usize]) {
+        let fields = &mut self.lines[line];
+        let free: Vec<usize> = (1..fields.len()).filter(|field| !spoilt.contains(field)).collect();
+        let field = random.pick(&free);
+        // A first line has one more way, which comes up more often.
+        let name = match random.below(if line == 0 { 21 } else { 17 }) {
+            0 => set(&mut fields[0], |letter| letter.to_lowercase(), "lower-case letter"),
+            1 => set(&mut fields[0], |_| "X".to_string(), "unknown letter"),
+            2 => set(&mut fields[0], |letter| letter.repeat(2), "letter twice"),
+            3 => set(&mut fields[0], |_| String::new(), "no letter"),
+            4 => {
+                fields.remove(field);
+                "field missing"
+            }
+            5 => {
+                fields.insert(field, "1".to_string());
+                "field too many"
+            }
+            6 => {
+                fields.push(String::new());
+                "comma at the end"
+            }
+            7 => {
+                *fields = vec![String::new()];
+                "empty line"
+            }
+            8 | 17.. if line == 0 => {
+                let other = random.pick(&["G,0,240,240", "R,0,240,1", "W,0,240,1"]);
+                *fields = other.split(',').map(str::to_string).collect();
+                "first line not M"
+            }
+            number => {
+                let (value, name) = bad_digits(number, &fields[field]);
+                fields[field] = value;
+                name
+            }
+        };
+        self.names.push(format!("form fault: {name}"));
+    }
+}
+
+/// Changes a field in place and gives the name of what was done.
+fn set(field: &mut String, change: impl Fn(&str) -> String, name: &'static str) -> &'static str {
+    *field = change(field);
+    name
+}
+
+/// A field that isn't "one to ten digits without leading zeros".
+fn bad_digits(number: u32, digits: &str) -> (String, &'static str) {
+    match number {
+        9 => (String::new(), "empty field"),
+        10 => (format!("0{digits}"), "leading zero"),
+        11 => (format!("+{digits}"), "sign"),
+        12 => (format!("-{digits}"), "minus"),
+        13 => (format!("{digits} "), "blank"),
+        14 => (format!("{digits}\r"), "CR"),
+        15 => ("12345678901".to_string(), "eleven digits"),
+        16 => (format!("\"{digits}\""), "quotes"),
+        _ => (format!("{digits}a"), "not a digit"),
+    }
+}

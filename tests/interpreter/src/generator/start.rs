@@ -1,0 +1,126 @@
+//! The image before its program: its labels, gates and registers, laid out so
+//! that the ops find what they need.
+
+use super::labels;
+use super::random::Random;
+use super::words::any_word;
+use crate::draft::Draft;
+use crate::label::{Label, Pair};
+use crate::machine::MAX_SIZE;
+
+/// The image before its program: labels, registers and gates.
+pub fn start_draft(random: &mut Random) -> Draft {
+    let size = match random.weighted(&[72, 15, 7, 5, 1]) {
+        0 => random.between(24, 96),
+        1 => random.between(5, 24),
+        2 => random.between(1, 4),
+        3 => random.between(97, 250),
+        _ => MAX_SIZE,
+    };
+    let pair = labels::valid_pair(random);
+    // The error pc is mostly behind the program, so that a failed fetch leads on
+    // to new words and not round in a circle.
+    let error_pc = if random.chance(60) { size - 1 - size / 4 } else { place(random, size) };
+    let pc = match random.below(20) {
+        0 => place(random, size),
+        1 => error_pc,
+        _ => random.below(size.div_ceil(8)),
+    };
+    let limit = u64::from(random.between(60, 400));
+    let mut draft = Draft::new(size as usize, error_pc, pc, pair, limit);
+    let high = higher_pair(random, pair);
+    add_gates(random, &mut draft);
+    for number in 0..16 {
+        let near = if random.chance(30) { high } else { pair };
+        let label = labels::location_label(random, near);
+        let value = register_value(random, &draft);
+        draft.register(number, label.0, value);
+    }
+    if random.chance(85) {
+        lay_out_tools(random, &mut draft, high);
+    }
+    for word in &mut draft.words {
+        let near = if random.chance(30) { high } else { pair };
+        word.label = labels::location_label(random, near);
+    }
+    draft
+}
+
+/// A valid pair that an upcall from this one can take.
+fn higher_pair(random: &mut Random, pair: Pair) -> Pair {
+    let pc = labels::sound_above(random, pair.timing);
+    Pair { pc, timing: labels::sound_above(random, pc) }
+}
+
+/// Puts into registers of low labels what upcalls, gate calls, op 17 and a
+/// program that rewrites itself need, and gives register 15 a label at which causes mostly arrive.
+fn lay_out_tools(random: &mut Random, draft: &mut Draft, high: Pair) {
+    let size = draft.words.len() as u32;
+    let higher = higher_pair(random, high);
+    let time = match random.below(20) {
+        0 => u32::MAX,
+        1..=5 => random.below(5),
+        _ => random.between(5, 60),
+    };
+    let back = random.between(size / 2, size - 1);
+    let gate = random.below(draft.gates.len() as u32 + 1);
+    let (target, code) = (random.between(size / 4, size - 1), any_word(random, size));
+    let labels = [high.pc, high.timing, higher.pc, higher.timing, draft.pair.pc];
+    let labels = labels.map(|label| u32::from(label.0));
+    let first = random.index(15);
+    for (offset, value) in [time, back, gate, target, code].into_iter().chain(labels).enumerate() {
+        let label = if random.chance(75) { Label::LOWEST } else { draft.pair.pc };
+        draft.register((first + offset) % 15, label.0, value);
+    }
+    draft.registers[15].label = match random.below(10) {
+        0..=2 => high.timing,
+        3..=5 => labels::above(random, high.timing),
+        6 => higher.timing,
+        _ => draft.registers[15].label,
+    };
+}
+
+/// A place, mostly in memory, now and then just behind it or anywhere.
+fn place(random: &mut Random, size: u32) -> u32 {
+    match random.below(20) {
+        0 => size,
+        1 => random.bits(),
+        _ => random.below(size),
+    }
+}
+
+/// Gates that can mostly be called: their labels flow to the pc label. Some
+/// fail by one check alone.
+fn add_gates(random: &mut Random, draft: &mut Draft) {
+    let size = draft.words.len() as u32;
+    let pair = draft.pair;
+    for _ in 0..random.pick(&[0, 1, 2, 2, 3, 3, 4, 8]) {
+        let timing = labels::below(random, pair.pc);
+        let gate = match random.below(12) {
+            0 => labels::invalid_pair(random),
+            1 => labels::valid_pair(random),
+            // Both labels flow to the pc label, but perhaps not one to the other.
+            2 | 3 => Pair { pc: labels::below(random, pair.pc), timing },
+            // The timing label flows to the timing label, perhaps not to the pc label.
+            4 | 5 => Pair { pc: labels::below(random, pair.pc), timing: pair.timing },
+            _ => Pair { pc: labels::below(random, timing), timing },
+        };
+        draft.gate(place(random, size), gate.pc.0, gate.timing.0);
+    }
+}
+
+/// A value that some op has a use for.
+fn register_value(random: &mut Random, draft: &Draft) -> u32 {
+    let size = draft.words.len() as u32;
+    let gates = draft.gates.len() as u32;
+    match random.weighted(&[34, 14, 20, 8, 12, 6, 4, 2]) {
+        0 => u32::from(labels::label_value(random, draft.pair).0),
+        1 => random.below(30),
+        2 => random.below(size),
+        3 => random.below(gates + 1),
+        4 => any_word(random, size),
+        5 => random.pick(&[u32::MAX, 1 << 31, (1 << 31) - 1, 1 << 16, 0]),
+        6 => random.between(1, 3) << 8 | u32::from(labels::label_value(random, draft.pair).0),
+        _ => random.bits(),
+    }
+}

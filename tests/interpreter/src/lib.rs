@@ -1,0 +1,33 @@
+//! An interpreter of the labelled kiln machine of document 01.
+//!
+//! The modules follow the chapters of that paper. Every function quotes the
+//! sentence that it implements, so that the two can be read side by side.
+//! Names are those of the field; the paper's own words stand in the comments.
+
+#![forbid(unsafe_code)]
+
+pub mod draft;
+pub mod generator;
+pub mod instruction;
+pub mod label;
+pub mod load;
+pub mod loops;
+pub mod machine;
+mod ops;
+pub mod print;
+pub mod step;
+
+pub use label::{Label, Pair};
+pub use load::{load, Refusal};
+pub use machine::{is_fit, Call, Gate, Machine, Register, Return};
+pub use print::print;
+pub use step::Event;
+
+/// "lent words or labels shorter than the size | 6"
+pub const SHORT_MEMORY: u8 = 6;
+
+/// "record not fit (step, run, print) | 7"
+pub const NOT_FIT: u8 = 7;
+
+/// "output too short | 8"
+pub const SHORT_OUTPUT: u8 = 8;

@@ -1,0 +1,72 @@
+//! Printing: the listing of a record and its memory.
+//!
+//! The listing is put together aside, so that its length is known before the
+//! first byte of the output is written.
+
+use crate::label::Label;
+use crate::machine::{is_fit, Call, Machine, Return};
+use crate::{NOT_FIT, SHORT_MEMORY, SHORT_OUTPUT};
+
+/// "Printing gives back the listing's length." The refusals come "7, 6, 8"; "8
+/// is given when the output is shorter than the listing; output beyond the
+/// listing stays."
+pub fn print(
+    machine: &Machine,
+    words: &[u32],
+    labels: &[u8],
+    output: &mut [u8],
+) -> Result<usize, u8> {
+    if !is_fit(machine) {
+        return Err(NOT_FIT);
+    }
+    if machine.memory_is_short(words, labels) {
+        return Err(SHORT_MEMORY);
+    }
+    let listing = listing(machine, words, labels);
+    let bytes = listing.as_bytes();
+    let target = output.get_mut(..bytes.len()).ok_or(SHORT_OUTPUT)?;
+    target.copy_from_slice(bytes);
+    Ok(bytes.len())
+}
+
+/// "prints `E,end,why,clock,place,p,t`; `F,kind,place,p,t,end tick` for open
+/// calls, older first ...; then R and W lines that differ from value 0, label
+/// 240."
+fn listing(machine: &Machine, words: &[u32], labels: &[u8]) -> String {
+    let mut listing = end_line(machine);
+    listing += &call_line(machine.first);
+    listing += &call_line(machine.second);
+    for (number, register) in machine.registers.iter().enumerate() {
+        listing += &location_line('R', number, register.label, register.value);
+    }
+    let memory = words.iter().zip(labels).take(machine.size as usize);
+    for (address, (&value, &label)) in memory.enumerate() {
+        listing += &location_line('W', address, Label(label), value);
+    }
+    listing
+}
+
+/// "`E,end,why,clock,place,p,t`"
+fn end_line(machine: &Machine) -> String {
+    let Machine { end, why, clock, pc, pair, .. } = machine;
+    format!("E,{end},{why},{clock},{pc},{},{}\n", pair.pc.0, pair.timing.0)
+}
+
+/// "`F,kind,place,p,t,end tick` for open calls, older first (1 gate, end tick
+/// 0; 2 upcall)"
+fn call_line(call: Call) -> String {
+    let (kind, Return { pc, pair }, end_tick) = match call {
+        Call::Empty => return String::new(),
+        Call::Gate(back) => (1, back, 0),
+        Call::Upcall(back, end_tick) => (2, back, end_tick),
+    };
+    format!("F,{kind},{pc},{},{},{end_tick}\n", pair.pc.0, pair.timing.0)
+}
+
+/// "R and W lines that differ from value 0, label 240"
+fn location_line(letter: char, number: usize, label: Label, value: u32) -> String {
+    if value == 0 && label == Label::LOWEST {
+        return String::new();
+    }
+    format!("{letter},{number},{},{value}\n", label.0)
+}
