@@ -31,21 +31,33 @@ use Rattle.model.proofs.Step.{below-set}
 
 -- ---- the state while the lines are read
 
+-- The control of a machine that has done nothing yet.
+record Started (c : Control) : Type 0 where
+  valid : isValid (c .pair) ≡ true
+  clock : c .clock ≡ 0
+  first : c .first ≡ Empty
+  second : c .second ≡ Empty
+  end : c .end ≡ 0
+  why : c .why ≡ 0
+
+-- Sixteen registers of 32 bits.
+record Filed (b : Bank) : Type 0 where
+  bits : (k : ℕ) → getD (b .values) k 0 < 2 ^ 32
+  values : length (b .values) ≡ 16
+  labels : length (b .labels) ≡ 16
+
+-- Memory of at least the size, with words of 32 bits below it.
+record Lent (size : ℕ) (m : Bank) : Type 0 where
+  bits : (k : ℕ) → k < size → getD (m .values) k 0 < 2 ^ 32
+  words : size ≤ length (m .values)
+  labels : size ≤ length (m .labels)
+
 -- The record and the memory so far are in order.
 record InOrder (r : Machine) (m : Bank) : Type 0 where
   fixed : FixedFit (r .fixed)
-  valid : isValid (r .control .pair) ≡ true
-  clock : r .control .clock ≡ 0
-  first : r .control .first ≡ Empty
-  second : r .control .second ≡ Empty
-  end : r .control .end ≡ 0
-  why : r .control .why ≡ 0
-  values : (k : ℕ) → getD (r .registers .values) k 0 < 2 ^ 32
-  registers : length (r .registers .values) ≡ 16
-  labels : length (r .registers .labels) ≡ 16
-  words : (k : ℕ) → k < r .fixed .size → getD (m .values) k 0 < 2 ^ 32
-  lentWords : r .fixed .size ≤ length (m .values)
-  lentLabels : r .fixed .size ≤ length (m .labels)
+  started : Started (r .control)
+  registers : Filed (r .registers)
+  memory : Lent (r .fixed .size) m
 
 -- One more gate.
 gate-in-order : (r : Machine) (m : Bank) (pc p t : ℕ) → InOrder r m → gateInRange (r .fixed .count) pc p t ≡ true
@@ -54,27 +66,19 @@ unfolding gateInRange
 gate-in-order r m pc p t h e =
     let k = simp and-iff at e in
     let c = ltb-true (r .fixed .count) 8 (k .1) in
+    let f = h .fixed in
     record {
       fixed =
           record {
-            sizeLow = h .fixed .sizeLow;
-            sizeHigh = h .fixed .sizeHigh;
-            limitLow = h .fixed .limitLow;
-            limitHigh = h .fixed .limitHigh;
+            sizeLow = f .sizeLow;
+            sizeHigh = f .sizeHigh;
+            limitLow = f .limitLow;
+            limitHigh = f .limitHigh;
             gates = omega arith;
           };
-      valid = h .valid;
-      clock = h .clock;
-      first = h .first;
-      second = h .second;
-      end = h .end;
-      why = h .why;
-      values = h .values;
+      started = h .started;
       registers = h .registers;
-      labels = h .labels;
-      words = h .words;
-      lentWords = h .lentWords;
-      lentLabels = h .lentLabels;
+      memory = h .memory;
     }
 
 -- One register set.
@@ -83,21 +87,18 @@ register-in-order : (r : Machine) (m : Bank) (k l v : ℕ) → InOrder r m → e
 unfolding entryInRange
 register-in-order r m k l v h e =
     let q = simp and-iff at e in
+    let b = r .registers in
+    let i : k < length (b .values) = rw (h .registers .values) (ltb-true k 16 (q .0 .0)) in
     record {
       fixed = h .fixed;
-      valid = h .valid;
-      clock = h .clock;
-      first = h .first;
-      second = h .second;
-      end = h .end;
-      why = h .why;
-      values =
-          λ j. below-set (r .registers .values) k v j (rw (h .registers) (ltb-true k 16 (q .0 .0))) (ltb-true v (2 ^ 32) (q .1)) (h .values j);
-      registers = length-set (r .registers .values) k v ∙ h .registers;
-      labels = length-set (r .registers .labels) k l ∙ h .labels;
-      words = h .words;
-      lentWords = h .lentWords;
-      lentLabels = h .lentLabels;
+      started = h .started;
+      registers =
+          record {
+            bits = λ j. below-set (b .values) k v j i (ltb-true v (2 ^ 32) (q .1)) (h .registers .bits j);
+            values = length-set (b .values) k v ∙ h .registers .values;
+            labels = length-set (b .labels) k l ∙ h .registers .labels;
+          };
+      memory = h .memory;
     }
 
 -- One word set.
@@ -106,22 +107,17 @@ word-in-order : (r : Machine) (m : Bank) (k l v : ℕ) → InOrder r m → entry
 unfolding entryInRange
 word-in-order r m k l v h e =
     let q = simp and-iff at e in
+    let i = lt-of-lt-of-le (ltb-true k (r .fixed .size) (q .0 .0)) (h .memory .words) in
     record {
       fixed = h .fixed;
-      valid = h .valid;
-      clock = h .clock;
-      first = h .first;
-      second = h .second;
-      end = h .end;
-      why = h .why;
-      values = h .values;
+      started = h .started;
       registers = h .registers;
-      labels = h .labels;
-      words =
-          λ j g. below-set (m .values) k v j (lt-of-lt-of-le (ltb-true k (r .fixed .size) (q .0 .0)) (h .lentWords))
-          (ltb-true v (2 ^ 32) (q .1)) (h .words j g);
-      lentWords = rw (length-set (m .values) k v) (h .lentWords);
-      lentLabels = rw (length-set (m .labels) k l) (h .lentLabels);
+      memory =
+          record {
+            bits = λ j g. below-set (m .values) k v j i (ltb-true v (2 ^ 32) (q .1)) (h .memory .bits j g);
+            words = rw (length-set (m .values) k v) (h .memory .words);
+            labels = rw (length-set (m .labels) k l) (h .memory .labels);
+          };
     }
 
 -- ---- the lines
@@ -214,18 +210,14 @@ header-in-order size errorpc pc p t limit m e v =
             limitHigh = leb-true limit (2 ^ 24) (h .1);
             gates = lit≤ tt;
           };
-      valid = v;
-      clock = refl;
-      first = refl;
-      second = refl;
-      end = refl;
-      why = refl;
-      values = blank-registers;
-      registers = refl;
-      labels = refl;
-      words = blank-words size (m .values);
-      lentWords = blank-lent size 0 (m .values);
-      lentLabels = blank-lent size _ (m .labels);
+      started = record { valid = v; clock = refl; first = refl; second = refl; end = refl; why = refl };
+      registers = record { bits = blank-registers; values = refl; labels = refl };
+      memory =
+          record {
+            bits = blank-words size (m .values);
+            words = blank-lent size 0 (m .values);
+            labels = blank-lent size _ (m .labels);
+          };
     }
 
 -- ---- the load
@@ -234,21 +226,29 @@ header-in-order size errorpc pc p t limit m e v =
 in-order-loaded : (r : Machine) (m : Bank) → InOrder r m → Loaded (stateOf r m)
 unfolding running lentWhole Below
 in-order-loaded r m h =
+    let c = h .started in
     record {
-      wellFormed = fits (stateOf r m)
+      wellFormed =
+          fits (stateOf r m)
           (record {
             fixed = h .fixed;
-            end = unfold endInRange in rw (h .end, h .why);
-            clock = rw (h .clock) zero-le;
-            valid = h .valid;
-            calls = rw (h .first, h .second) none;
+            end = unfold endInRange in rw (c .end, c .why);
+            clock = rw (c .clock) zero-le;
+            valid = c .valid;
+            calls = rw (c .first, c .second) none;
           });
-      running = rw (h .end);
-      clock = h .clock;
-      first = h .first;
-      second = h .second;
-      lent = rw (le-leb _ _ (h .lentWords), le-leb _ _ (h .lentLabels));
-      typed = record { values = h .values; words = h .words; registers = h .registers; labels = h .labels };
+      running = rw (c .end);
+      clock = c .clock;
+      first = c .first;
+      second = c .second;
+      lent = rw (le-leb _ _ (h .memory .words), le-leb _ _ (h .memory .labels));
+      typed =
+          record {
+            values = h .registers .bits;
+            words = h .memory .bits;
+            registers = h .registers .values;
+            labels = h .registers .labels;
+          };
     }
 
 -- So it is with every verdict.
