@@ -7,3 +7,4 @@ pub mod Run
 pub mod Load
 pub mod Facts
 pub mod Noninterference
+pub mod Witness

@@ -51,8 +51,9 @@ arrived : (ℓ k : ℕ) (s : State) → Loaded s → (qs : List Invocation) → 
     → reached k s (trace qs s) ≡ true → Arrived ℓ k s (atTick k s (trace qs s))
 arrived ℓ k s l qs p h =
     let r = loaded-ready s l in
-    let (m, e) = trace-row qs s r in
-    rw e (arrive ℓ k m s r (rw (l .clock) (omega arith)) (rw e at h) (rw e at (p .steps)))
+    let t = trace-row qs s r in
+    let e = t .states in
+    rw e (arrive ℓ k (t .count) s r (rw (l .clock) (omega arith)) (rw e at h) (rw e at (p .steps)))
 
 -- From two loaded states: the two are alike at or below ℓ at every tick that both have reached.
 pub from-loaded-states : FromLoadedStates

@@ -14,3 +14,4 @@ pub mod Typed
 pub mod Facts
 pub mod Seen
 pub mod Noninterference
+pub mod Witness

@@ -63,6 +63,11 @@ after q s =
     stateOf (answered q s .machine)
     (record { values = regain (q .words) (s .memory .values) (answered q s .memory .values); labels = regain (q .labels) (s .memory .labels) (answered q s .memory .labels) })
 
+-- The state after a sequence of calls.
+unfoldable pub afterAll : List Invocation → State → State
+afterAll [] s = s
+afterAll (q ∷ qs) s = afterAll qs (after q s)
+
 -- ---- the states of a sequence
 
 -- The states after the steps that a run does, as it steps until the end isn't 0: so many at the most.

@@ -17,7 +17,7 @@ use Rattle.model.specs.Record.{Bank, Machine, State, machineOf, stateOf}
 use Rattle.model.specs.WellFormed.{wellFormed, lentWhole}
 use Rattle.model.specs.Step.{running, step, steps, run}
 use Rattle.model.specs.Answer.{Answer, answer, refused, done}
-use Rattle.model.specs.Noninterference.{Kind, stepCall, runCall, Lent, whole, part, Invocation, lend, regain, answerOf, answered, after, runStates, workStates, callStates, trace, final, atTick, reached, StepProvisos, StepsProvisos}
+use Rattle.model.specs.Noninterference.{Kind, stepCall, runCall, Lent, whole, part, Invocation, lend, regain, answerOf, answered, after, afterAll, runStates, workStates, callStates, trace, final, atTick, reached, StepProvisos, StepsProvisos}
 use Rattle.model.proofs.Truth.{either, clash, or-true, not-iff}
 use Rattle.model.proofs.WellFormed.{fits}
 use Rattle.model.proofs.Step.{Ready, step-ready, step-passes}
@@ -166,25 +166,28 @@ call-row k (part from count) whole s r =
 call-row k (part from count) (part from′ count′) s r =
     short-row _ s r (short-words _ _ _ (part-short _ from count (s .memory .values) (r .fit .fixed .sizeLow)))
 
--- After each call the trace's last state is the record and memory that the answer gives back.
-pub call-last : (q : Invocation) (s : State) → Ready s → final s (callStates q s) ≡ after q s
-call-last q s r =
-    let h = call-row (q .kind) (q .words) (q .labels) s r in
-    ap (final s) (h .states) ∙ final-path (h .count) s ∙ sym (h .last)
-
 -- ---- a sequence of calls
 
 -- The trace of a sequence of calls is so many steps in a row.
-pub trace-row : (qs : List Invocation) (s : State) → Ready s → (m : ℕ) × (trace qs s ≡ path m s)
-unfolding trace
-trace-row [] s r = (0, refl)
+pub trace-row : (qs : List Invocation) (s : State) → Ready s → Row s (trace qs s) (afterAll qs s)
+unfolding trace afterAll steps
+trace-row [] s r = record { count = 0; states = refl; last = refl }
 trace-row (q ∷ qs) s r =
     let h = call-row (q .kind) (q .words) (q .labels) s r in
     let t = subst Ready (sym (h .last)) (steps-ready (h .count) s r) in
-    let g = trace-row qs (after q s) t in (
-      h .count + g .0,
-      ap₂ (λ (xs ys : List State). xs ++ ys) (h .states) (g .1 ∙ ap (path (g .0)) (h .last)) ∙ path-append (h .count) (g .0) s,
-    )
+    let g = trace-row qs (after q s) t in
+    record {
+      count = h .count + g .count;
+      states =
+          ap₂ (λ (xs ys : List State). xs ++ ys) (h .states) (g .states ∙ ap (path (g .count)) (h .last))
+          ∙ path-append (h .count) (g .count) s;
+      last = g .last ∙ ap (steps (g .count)) (h .last) ∙ sym (steps-add (h .count) (g .count) s);
+    }
+
+-- After a sequence of calls the trace's last state is the record and memory that the last answer gives back.
+pub trace-last : (qs : List Invocation) (s : State) → Ready s → final s (trace qs s) ≡ afterAll qs s
+trace-last qs s r =
+    let h = trace-row qs s r in ap (final s) (h .states) ∙ final-path (h .count) s ∙ sym (h .last)
 
 -- ---- the state at a reached tick
 
