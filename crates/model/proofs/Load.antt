@@ -24,7 +24,8 @@ use Rattle.model.specs.Typed.{Typed, Below}
 use Rattle.model.specs.Step.{running}
 use Rattle.model.specs.Text.{lines}
 use Rattle.model.specs.Load.{machineOfHeader, withGate, withRegister, withEntry, headerInRange, gateInRange, entryInRange, leastOf, Progress, Verdict, refuse, accept, tried, judge, cleared, fill, Loading, refusal, settle, loadLines, load}
-use Rattle.model.specs.Noninterference.{Loaded, stateOfLoad}
+use Rattle.model.specs.Noninterference.{Loaded}
+use Rattle.model.specs.Program.{stateOfLoad}
 use Rattle.model.proofs.Truth.{choice, either, and-iff}
 use Rattle.model.proofs.WellFormed.{FixedFit, CallsFit, none, Fit, fits}
 use Rattle.model.proofs.Step.{below-set}

@@ -20,8 +20,9 @@ use Rattle.model.specs.declared.Control.{Control}
 use Rattle.model.specs.Record.{State, isUpcall, isEmpty, newest, inUpcall}
 use Rattle.model.specs.WellFormed.{lentWhole}
 use Rattle.model.specs.Load.{load}
+use Rattle.model.specs.Program.{stateOfLoad}
 use Rattle.model.specs.Seen.{LowEquivalent}
-use Rattle.model.specs.Noninterference.{Invocation, trace, atTick, reached, Provisos, Loaded, FromLoadedStates, stateOfLoad, Noninterference}
+use Rattle.model.specs.Noninterference.{Invocation, trace, atTick, reached, Provisos, Loaded, FromLoadedStates, Noninterference}
 use Rattle.model.proofs.Truth.{and-iff}
 use Rattle.model.proofs.WellFormed.{fit}
 use Rattle.model.proofs.Step.{Ready}

@@ -9,6 +9,7 @@ pub mod Answer
 pub mod Text
 pub mod Load
 pub mod Listing
+pub mod Program
 -- ======== Here the definition of the machine ends. Everything else, here and in proofs/, is derived from it.
 pub mod Typed
 pub mod Facts

@@ -16,6 +16,7 @@ use Rattle.model.specs.Ops.{Change, write, goto, enter, openUpcall, open
 use Rattle.model.specs.Step.{Decision, rest, spend, stall, close, carry, running, decide, step}
 use Rattle.model.specs.Answer.{Answer, stepAnswer, runAnswer}
 use Rattle.model.specs.Load.{Loading, load}
+use Rattle.model.specs.Program.{stateOfLoad}
 use Rattle.model.specs.Seen.{within, exists, LowEquivalent}
 
 -- ---- a sequence of calls
@@ -182,10 +183,6 @@ FromLoadedStates =
     (ℓ k : ℕ) (s t : State) → Loaded s → Loaded t → SameSetting s t → LowEquivalent ℓ s t → (qs rs : List Invocation)
     → Provisos ℓ k s (trace qs s) → Provisos ℓ k t (trace rs t) → reached k s (trace qs s) ≡ true
     → reached k t (trace rs t) ≡ true → LowEquivalent ℓ (atTick k s (trace qs s)) (atTick k t (trace rs t))
-
--- The state that a load leaves: its record and memory.
-abbrev pub stateOfLoad : Loading → State
-stateOfLoad a = stateOf (a .machine) (a .memory)
 
 -- The load is accepted.
 abbrev pub Accepted : Loading → Type 0

@@ -1,0 +1,37 @@
+-- What the program `firing` prints: document 01, "Text", the second paragraph.
+-- Assumes nothing.
+use Prim.Native.Nat.{ℕ}
+use mathlib.Core.Bool.{cond}
+use mathlib.Core.List.{List, [], _∷_, _++_}
+use lib.Dec.{leb, eqb}
+use lib.ListN.{length, drop}
+use Rattle.model.specs.Record.{Bank, State, stateOf}
+use Rattle.model.specs.Step.{run}
+use Rattle.model.specs.Load.{Loading, load}
+use Rattle.model.specs.Listing.{line, listing}
+
+-- The state that a load leaves: its record and memory.
+abbrev pub stateOfLoad : Loading → State
+stateOfLoad a = stateOf (a .machine) (a .memory)
+
+-- What is printed after a load: the listing of the run to the end; for a refusal `X,number,line`.
+unfoldable pub reply : Loading → List ℕ
+reply a = cond (eqb (a .number) 0) (listing (run (stateOfLoad a))) (line 88 (a .number ∷ a .line ∷ []))
+
+-- The memory after it.
+unfoldable pub memoryAfter : Loading → Bank
+memoryAfter a = cond (eqb (a .number) 0) (run (stateOfLoad a) .memory) (a .memory)
+
+-- A firing: how many bytes were written, the output and the lent memory at exit.
+pub record Firing : Type 0 where
+  pub bytes : ℕ
+  pub output : List ℕ
+  pub memory : Bank
+
+-- A text loaded, run to the end and printed into lent output. Output that is too short is left, with 0 bytes.
+unfoldable pub fire : List ℕ → Bank → List ℕ → Firing
+fire text m out =
+    let o = reply (load text m) in
+    cond (leb (length o) (length out))
+    (record { bytes = length o; output = o ++ drop (length o) out; memory = memoryAfter (load text m) })
+    (record { bytes = 0; output = out; memory = memoryAfter (load text m) })
