@@ -5,6 +5,7 @@ pub mod WellFormed
 pub mod Step
 pub mod Run
 pub mod Load
+pub mod Program
 pub mod Facts
 pub mod Noninterference
 pub mod Witness

@@ -27,8 +27,8 @@ use Rattle.model.specs.Load.{machineOfHeader, withGate, withRegister, wi
 use Rattle.model.specs.Noninterference.{Loaded}
 use Rattle.model.specs.Program.{stateOfLoad}
 use Rattle.model.proofs.Truth.{choice, either, and-iff}
-use Rattle.model.proofs.WellFormed.{FixedFit, CallsFit, none, Fit, fits}
-use Rattle.model.proofs.Step.{below-set}
+use Rattle.model.proofs.WellFormed.{FixedFit, CallsFit, none, Fit, fit, fits}
+use Rattle.model.proofs.Step.{Ready, below-set}
 
 -- ---- the state while the lines are read
 
@@ -320,3 +320,15 @@ pub load-loaded : (text : List ℕ) (m : Bank) → load text m .number ≡ 0 →
 unfolding load
 load-loaded text m =
     choice Leaves (leb 1 (length text) && leb (length text) 65535) _ _ (λ h. lines-loaded (lines text) m) (λ h e. absurd (omega arith))
+
+-- A loaded state is ready.
+pub loaded-ready : (s : State) → Loaded s → Ready s
+unfolding lentWhole
+loaded-ready s l =
+    let h = simp and-iff at (l .lent) in
+    record {
+      fit = fit s (l .wellFormed);
+      typed = l .typed;
+      words = leb-true (s .fixed .size) (length (s .memory .values)) (h .0);
+      labels = leb-true (s .fixed .size) (length (s .memory .labels)) (h .1);
+    }

@@ -26,21 +26,9 @@ use Rattle.model.specs.Noninterference.{Invocation, trace, atTick, reach
 use Rattle.model.proofs.Truth.{and-iff}
 use Rattle.model.proofs.WellFormed.{fit}
 use Rattle.model.proofs.Step.{Ready}
-use Rattle.model.proofs.Load.{load-loaded}
+use Rattle.model.proofs.Load.{loaded-ready, load-loaded}
 use Rattle.model.proofs.Noninterference.Paths.{Both, at-one-tick}
 use Rattle.model.proofs.Noninterference.Trace.{path, Arrived, arrive, trace-row}
-
--- A loaded state is ready.
-loaded-ready : (s : State) → Loaded s → Ready s
-unfolding lentWhole
-loaded-ready s l =
-    let h = simp and-iff at (l .lent) in
-    record {
-      fit = fit s (l .wellFormed);
-      typed = l .typed;
-      words = leb-true (s .fixed .size) (length (s .memory .values)) (h .0);
-      labels = leb-true (s .fixed .size) (length (s .memory .labels)) (h .1);
-    }
 
 -- It is in no upcall.
 loaded-outside : (s : State) → Loaded s → inUpcall (s .control) ≡ false

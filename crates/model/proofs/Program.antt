@@ -1,0 +1,47 @@
+-- The laws that the program's parts fit together: a load that is accepted is run without a refusal, and the state after
+-- the run is printed unless the output is too short.
+-- Assumes nothing.
+use Prim.Native.Nat.{ℕ, _≤_}
+use mathlib.Core.Path.{_≡_, refl, sym, ap, _∙_}
+use mathlib.Core.Bool.{Bool, true, false, cond, _&&_}
+use mathlib.Core.List.{List, _++_}
+use lib.Dec.{leb}
+use lib.ListN.{length, drop}
+use borrow.Author.Tests.{le-leb}
+use Rattle.model.specs.Record.{Bank, State, machineOf}
+use Rattle.model.specs.WellFormed.{wellFormed, lentWhole}
+use Rattle.model.specs.Step.{run}
+use Rattle.model.specs.Answer.{Answer, answer, done, runAnswer}
+use Rattle.model.specs.Load.{load}
+use Rattle.model.specs.Listing.{listing, Printing, notPrinted, print}
+use Rattle.model.specs.Program.{stateOfLoad}
+use Rattle.model.proofs.WellFormed.{fits}
+use Rattle.model.proofs.Step.{Ready}
+use Rattle.model.proofs.Run.{run-ready}
+use Rattle.model.proofs.Load.{loaded-ready, load-loaded}
+
+-- A ready state's memory is lent whole.
+lent : (s : State) → Ready s → lentWhole (s .fixed) (s .memory .values) (s .memory .labels) ≡ true
+unfolding lentWhole
+lent s r = rw (le-leb _ _ (r .words), le-leb _ _ (r .labels))
+
+-- A ready state is run without a refusal.
+pub run-done : (s : State) → Ready s → runAnswer (machineOf s) (s .memory) ≡ done (run s)
+unfolding answer
+run-done s r = rw (fits s (r .fit), lent s r)
+
+-- A ready state is printed unless the output is too short.
+pub print-done : (s : State) (out : List ℕ) → Ready s
+    → print (machineOf s) (s .memory) out
+    ≡ cond (leb (length (listing s)) (length out))
+    (record { number = 0; machine = machineOf s; bytes = length (listing s); output = listing s ++ drop (length (listing s)) out })
+    (notPrinted 8 (machineOf s) out)
+unfolding print
+print-done s out r = rw (fits s (r .fit), lent s r)
+
+-- The state that an accepted load leaves is ready, and so is the one after its run.
+pub load-ready : (text : List ℕ) (m : Bank) → load text m .number ≡ 0 → Ready (stateOfLoad (load text m))
+load-ready text m e = loaded-ready (stateOfLoad (load text m)) (load-loaded text m e)
+
+pub run-load-ready : (text : List ℕ) (m : Bank) → load text m .number ≡ 0 → Ready (run (stateOfLoad (load text m)))
+run-load-ready text m e = run-ready (stateOfLoad (load text m)) (load-ready text m e)
