@@ -1,3 +1,4 @@
 pub mod Subset
 pub mod Laws
 pub mod Whole
+pub mod Constants
