@@ -8,4 +8,4 @@ pub mod Load
 pub mod Program
 pub mod Facts
 pub mod Noninterference
-pub mod Witness
+pub mod WitnessFacts

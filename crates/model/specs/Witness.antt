@@ -1,6 +1,6 @@
 -- Witnesses for the third demand: states and sequences of calls that are small enough to compute with. They show that the
 -- theorem's hypotheses are met by machines that differ, that without any one of the provisos it would be false, and that no
--- proviso is wider than the paper's. proofs/Witness.antt has the checker compute them.
+-- proviso is wider than the paper's. proofs/WitnessFacts.antt has the checker compute them.
 -- Assumes nothing.
 use Prim.Native.Nat.{ℕ, zero, suc, _+_, _*_, _^_, max}
 use mathlib.Core.Path.{_≡_}
@@ -241,10 +241,11 @@ left ℓ = machine usual (begin (twice 240)) mainProgram (holding ℓ 0) 1
 abbrev pub right : ℕ → State
 right ℓ = machine usual (begin (twice 240)) mainProgram (holding ℓ (2 ^ 31)) 3
 
--- Their states at tick k.
+-- The first machine's state at tick k.
 abbrev pub leftAt : ℕ → ℕ → State
 leftAt ℓ k = atTick k (left ℓ) (trace interrupted (left ℓ))
 
+-- The second machine's state at tick k.
 abbrev pub rightAt : ℕ → ℕ → State
 rightAt ℓ k = atTick k (right ℓ) (trace oneRun (right ℓ))
 
@@ -362,13 +363,15 @@ goesFrom s p q = eqb (s .control .pair .pc) p && eqb (step s .control .pair .pc)
 abbrev pub at : Control → ℕ → State
 at c w = machine usual c (w ∷ []) (holding 240 0) 0
 
--- A gate call to the first gate, to the third.
+-- A gate call to the first gate.
 abbrev pub gateIn : ℕ
 gateIn = wordOf 20 0 0 0
 
+-- A gate call to the third gate.
 abbrev pub gateOut : ℕ
 gateOut = wordOf 20 0 13 0
 
+-- Steps that break no proviso, each beside a test that it is the step meant.
 abbrev pub unbrokenTable : List Bool
 unbrokenTable =
     -- 240 is within, 255 and 51 are outside
@@ -397,6 +400,7 @@ unbrokenTable =
 
 -- ---- what is reached
 
+-- Ticks that are reached, and one that isn't.
 abbrev pub reachedTable : List Bool
 reachedTable =
     -- every tick after an end

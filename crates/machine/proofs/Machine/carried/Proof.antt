@@ -1,0 +1,26 @@
+-- `machine::Machine::carried` meets its contract.
+-- Assumes nothing.
+use borrow.Author.Needs.{needs}
+use Rattle.machine.specs.Answered.{recordOf}
+use Rattle.machine.proofs.Whole.{clock-within, limit-within, fit-of, carried-of}
+use Rattle.machine.proofs.Machine.carried.Statement.{statement}
+use Rattle.machine.proofs.Machine.carried.Tie as tie
+
+step-count-requires : tie.Need-step-count-requires
+step-count-requires c κs = (clock-within (recordOf (c .before .before .before .before .before .before .args .self)) (c .before .before .before .before .before .before .pre .0), limit-within (recordOf (c .before .before .before .before .before .before .args .self)) (c .before .before .before .before .before .before .pre .0))
+
+drive-requires : tie.Need-drive-requires
+drive-requires c κs = fit-of (recordOf (c .before .before .before .before .before .before .before .before .before .before .before .args .self)) (c .before .before .before .before .before .before .before .before .before .before .before .pre .0) (c .before .before .before .before .before .before .before .before .before .before .before .pre .1) (c .before .before .before .before .before .before .before .before .before .before .before .pre .2)
+
+same-length : tie.Need-same-length
+same-length c = search needs
+
+same-length-2 : tie.Need-same-length-2
+same-length-2 c = search needs
+
+returns : tie.Need-returns
+returns c = carried-of (c .before .before .before .before .before .before .before .step-count .ensures) (c .before .before .drive .ensures)
+
+pub carried-spec : {M : Type 1} → statement M
+carried-spec =
+    tie.close (tie.spec step-count-requires drive-requires same-length same-length-2 returns)

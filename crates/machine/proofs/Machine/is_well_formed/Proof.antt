@@ -1,0 +1,32 @@
+-- `machine::Machine::is_well_formed` meets its contract.
+-- Assumes nothing.
+use borrow.Author.Needs.{needs}
+use Rattle.model.specs.WellFormed.{fixedInRange, endInRange, wellFormed}
+use Rattle.machine.proofs.Machine.is_well_formed.Statement.{statement}
+use Rattle.machine.proofs.Machine.is_well_formed.Tie as tie
+
+fixed-in-range-requires : tie.Need-fixed-in-range-requires
+fixed-in-range-requires c κs = search needs
+
+end-in-range-requires : tie.Need-end-in-range-requires
+end-in-range-requires c κs = search needs
+
+is-valid-pair-requires : tie.Need-is-valid-pair-requires
+is-valid-pair-requires c κs = search needs
+
+calls-well-formed-requires : tie.Need-calls-well-formed-requires
+calls-well-formed-requires c κs = search needs
+
+returns : tie.Need-returns
+unfolding wellFormed fixedInRange endInRange
+returns c = rw (c .before .before .before .before .before .fixed-in-range .ensures, c .before .before .before .before .end-in-range .ensures, c .before .is-valid-pair .ensures, c .calls-well-formed .ensures (c .before .before .before .before .before .before .before .before .before .args .self .control))
+
+pub is-well-formed-spec : {M : Type 1} → statement M
+is-well-formed-spec =
+    tie.close
+    (tie.spec
+    fixed-in-range-requires
+    end-in-range-requires
+    is-valid-pair-requires
+    calls-well-formed-requires
+    returns)

@@ -1,0 +1,106 @@
+// So many steps: the hot loop, then one step of what it stopped at, in turn.
+use crate::apply::control_after;
+use crate::apply::write_back;
+use crate::common::sprint;
+use crate::rest::decide;
+use crate::rest::end_tick;
+use crate::rest::is_upcall;
+use crate::rest::newest;
+use model::Call;
+use model::Control;
+use model::Fixed;
+ghost use Prim.Native.Nat.{_≤_};
+ghost use mathlib.Core.Path.{_≡_};
+ghost use Rattle.model.specs.Record.{isUpcall, endTickOf};
+ghost use Rattle.machine.specs.Common.{deadlineOf};
+ghost use Rattle.machine.specs.Drive.{Fit, Driven};
+
+// The tick by which a common op has to finish.
+fn deadline_of(limit: u32, call: Call) -> u32
+    ensures { λ r. ⌜ (r ≡ deadlineOf (isUpcall call) (endTickOf call) limit) × (r ≤ limit) ⌝ }
+{
+    if is_upcall(call) {
+        let end = end_tick(call);
+        if end < limit as u64 {
+            return end as u32;
+        }
+    }
+    limit
+}
+
+// So many steps, from the control `start` and with the registers and memory as they are lent.
+pub(crate) fn drive(
+    fixed: Fixed,
+    start: Control,
+    count: u32,
+    values: &mut [u32; 16],
+    labels: &mut [u8; 16],
+    words: &mut [u32],
+    marks: &[u8],
+) -> Control
+    requires { ⌜ Fit fixed start (now words) (now marks) ⌝ }
+    ensures { λ r. ⌜ Driven fixed start count (now (values .entry)) (now (labels .entry)) (now (words .entry)) (now (marks .entry)) r (now (values .exit)) (now (labels .exit)) (now (words .exit)) ⌝ }
+{
+    let mut control = start;
+    let mut left = count;
+    while 0 < left {
+        let end = control.end;
+        if 0 < end {
+            return control;
+        }
+        let why = control.why;
+        let pair = control.pair;
+        let first = control.first;
+        let second = control.second;
+        let limit = fixed.limit;
+        let call = newest(first, second);
+        let deadline = deadline_of(limit, call);
+        let pause = sprint(
+            fixed.size,
+            pair.pc,
+            pair.timing,
+            is_upcall(call),
+            deadline,
+            control.pc,
+            control.clock,
+            left,
+            values,
+            labels,
+            words,
+            marks,
+        );
+        let pc = pause.pc;
+        let clock = pause.clock;
+        if pause.left == 0 {
+            return Control {
+                pc,
+                pair,
+                clock,
+                first,
+                second,
+                end,
+                why,
+            };
+        }
+        let stop = pause.stop;
+        let gates = fixed.gates;
+        let verdict = decide(
+            stop,
+            pc,
+            fixed.errorpc,
+            limit,
+            pair.pc,
+            pair.timing,
+            clock,
+            call,
+            fixed.count,
+            gates,
+            values,
+            labels,
+        );
+        write_back(verdict, pair.timing, values, labels);
+        control = control_after(pair, first, second, end, why, pc, clock, limit, verdict);
+        left = pause.left - 1;
+    }
+    control
+}

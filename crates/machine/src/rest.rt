@@ -1,0 +1,506 @@
+// What a step does where the hot loop stopped: the ops 15 to 22, failed fetches, closed upcalls, stalls and spent time.
+// Nothing here changes the machine: each function answers what is to be done.
+use crate::common::Stop;
+use crate::word::a_of;
+use crate::word::b_of;
+use crate::word::c_of;
+use crate::word::d_of;
+use crate::word::index;
+use crate::word::op_of;
+use labels::Label;
+use model::Call;
+use model::CallGate;
+use model::Pair;
+ghost use Prim.Native.Nat.{_+_, _^_, _≤_, _<_};
+ghost use mathlib.Core.Path.{_≡_};
+ghost use mathlib.Core.Bool.{true, false, not, cond, _&&_};
+ghost use lib.Dec.{ltb, eqb};
+ghost use lib.ListN.{getD};
+ghost use Rattle.labels.specs.Label.{flows, join, meet, validPair, mayRaise, mayRelabel};
+ghost use Rattle.model.specs.Record.{isEmpty, isGate, isUpcall, pairOf, endTickOf, register};
+ghost use Rattle.model.specs.Ops.{write, goto, nothing, label, enter, openUpcall, openGate, closeGate, isLabel, noGate};
+ghost use Rattle.model.specs.Step.{close, stall, carry};
+ghost use Rattle.machine.specs.Rest.{decisionOf, allowed, newestOf, Acts, Held, Short, Timely, Rested, Other, Ready, Planned, Limited, Decided};
+
+// What an op changes that is carried out.
+pub enum Act {
+    // nothing
+    Pass,
+    // on at this pc
+    Goto(u32),
+    // a register gets a label
+    SetLabel(usize, u8),
+    // another pair
+    Enter(Pair),
+    // an upcall with its return pc, its pair and its end tick
+    OpenUpcall(u32, Pair, u64),
+    OpenGate(CallGate),
+    CloseGate,
+    Halt,
+}
+
+// What a step does: it spends the clock, stalls, closes the upcall with a cause, or carries an act out in so many ticks.
+pub enum Verdict {
+    Spend,
+    Stall(u8),
+    Close(u8),
+    Carry(u32, Act),
+}
+
+// ---- open calls
+
+// The newest of two open calls.
+pub(crate) fn newest(first: Call, second: Call) -> Call
+    ensures { λ r. ⌜ r ≡ newestOf first second ⌝ }
+{
+    match second {
+        Call::Empty => first,
+        Call::Gate(_, _) => second,
+        Call::Upcall(_, _, _) => second,
+    }
+}
+
+pub(crate) fn is_empty(call: Call) -> bool
+    ensures { λ r. ⌜ r ≡ isEmpty call ⌝ }
+{
+    match call {
+        Call::Empty => true,
+        Call::Gate(_, _) => false,
+        Call::Upcall(_, _, _) => false,
+    }
+}
+
+fn is_gate(call: Call) -> bool
+    ensures { λ r. ⌜ r ≡ isGate call ⌝ }
+{
+    match call {
+        Call::Empty => false,
+        Call::Gate(_, _) => true,
+        Call::Upcall(_, _, _) => false,
+    }
+}
+
+pub(crate) fn is_upcall(call: Call) -> bool
+    ensures { λ r. ⌜ r ≡ isUpcall call ⌝ }
+{
+    match call {
+        Call::Empty => false,
+        Call::Gate(_, _) => false,
+        Call::Upcall(_, _, _) => true,
+    }
+}
+
+pub(crate) fn end_tick(call: Call) -> u64
+    ensures { λ r. ⌜ r ≡ endTickOf call ⌝ }
+{
+    match call {
+        Call::Empty => 0,
+        Call::Gate(_, _) => 0,
+        Call::Upcall(_, _, e) => e,
+    }
+}
+
+// The pair that a call keeps.
+pub(crate) fn kept_pair(call: Call) -> Pair
+    ensures { λ r. ⌜ r ≡ pairOf call ⌝ }
+{
+    match call {
+        Call::Empty => Pair { pc: 0, timing: 0 },
+        Call::Gate(_, q) => q,
+        Call::Upcall(_, q, _) => q,
+    }
+}
+
+// ---- ops 15 and 16
+
+// A value that is a label.
+fn byte(x: u32) -> u8
+    requires { ⌜ x < 256 ⌝ }
+    ensures { λ r. ⌜ r ≡ x ⌝ }
+{
+    x as u8
+}
+
+fn may_raise(x: u32, la: u8, p: u8) -> bool
+    ensures { λ r. ⌜ r ≡ (isLabel x && mayRaise p la x) ⌝ }
+{
+    if x < 256 {
+        Label(la).may_raise(Label(byte(x)), Label(p))
+    } else {
+        false
+    }
+}
+
+fn may_relabel(x: u32, la: u8, p: u8) -> bool
+    ensures { λ r. ⌜ r ≡ (isLabel x && mayRelabel p la x) ⌝ }
+{
+    if x < 256 {
+        Label(la).may_relabel(Label(byte(x)), Label(p))
+    } else {
+        false
+    }
+}
+
+fn set_label(ok: bool, a: usize, x: u32, lb: u8, p: u8) -> Act
+    requires { ⌜ (ok ≡ true → x < 256) × (a < 16) ⌝ }
+    ensures { λ r. ⌜ Acts (ok && flows lb p) (write (label (register a) x)) r ⌝ }
+{
+    if ok {
+        if Label(lb).flows_to(Label(p)) {
+            return Act::SetLabel(a, byte(x));
+        }
+    }
+    Act::Pass
+}
+
+// ---- ops 17 and 18
+
+// Whether x and y are labels that form a valid pair, and may be read.
+fn new_pair_allowed(x: u32, y: u32, lb: u8, lc: u8, p: u8) -> bool
+    ensures { λ r. ⌜ r ≡ allowed x y lb lc p ⌝ }
+{
+    if x < 256 {
+        if y < 256 {
+            return Label(byte(x)).is_valid_pair(Label(byte(y)))
+                & Label(lb).flows_to(Label(p))
+                & Label(lc).flows_to(Label(p));
+        }
+    }
+    false
+}
+
+fn set_pair(ok: bool, x: u32, y: u32, p: u8, t: u8) -> Act
+    requires { ⌜ (ok ≡ true → (x < 256) × (y < 256)) ⌝ }
+    ensures { λ r. ⌜ Acts (ok && flows p x && flows t y) (enter (record { pc = x; timing = y })) r ⌝ }
+{
+    if ok {
+        let q = byte(x);
+        let u = byte(y);
+        if Label(p).flows_to(Label(q)) & Label(t).flows_to(Label(u)) {
+            return Act::Enter(Pair { pc: q, timing: u });
+        }
+    }
+    Act::Pass
+}
+
+// Whether the labels of an upcall's length and return pc may be read, and the join of the pair flows to the new pc label.
+fn may_upcall(q: u8, p: u8, t: u8, la: u8, ld: u8) -> bool
+    ensures { λ r. ⌜ r ≡ (flows (join p t) q && flows la p && flows ld p) ⌝ }
+{
+    Label(p).join(Label(t)).flows_to(Label(q))
+        & Label(la).flows_to(Label(p))
+        & Label(ld).flows_to(Label(p))
+}
+
+fn open_upcall(
+    up: bool,
+    ok: bool,
+    x: u32,
+    y: u32,
+    p: u8,
+    t: u8,
+    la: u8,
+    ld: u8,
+    length: u32,
+    back: u32,
+    clock: u32,
+) -> Act
+    requires { ⌜ (ok ≡ true → (x < 256) × (y < 256)) × (clock ≤ 16777216) ⌝ }
+    ensures { λ r. ⌜ Acts (not up && ok && flows (join p t) x && flows la p && flows ld p) (openUpcall back (record { pc = x; timing = y }) (clock + 2 + length)) r ⌝ }
+{
+    if up {
+        return Act::Pass;
+    }
+    if ok {
+        let q = byte(x);
+        let u = byte(y);
+        if may_upcall(q, p, t, la, ld) {
+            let end = clock as u64 + 2 + length as u64;
+            return Act::OpenUpcall(back, Pair { pc: q, timing: u }, end);
+        }
+    }
+    Act::Pass
+}
+
+// ---- ops 20 and 21
+
+// Whether a gate with the pair q, u may be called.
+fn may_enter(q: u8, u: u8, lb: u8, p: u8) -> bool
+    ensures { λ r. ⌜ r ≡ (validPair q u && flows q p && flows u p && flows lb p) ⌝ }
+{
+    Label(q).is_valid_pair(Label(u))
+        & Label(q).flows_to(Label(p))
+        & Label(u).flows_to(Label(p))
+        & Label(lb).flows_to(Label(p))
+}
+
+// The gate call of gate number x.
+fn open_gate(x: u32, lb: u8, p: u8, call: Call, count: u32, gates: [CallGate; 8]) -> Act
+    requires { ⌜ count ≤ 8 ⌝ }
+    ensures { λ r. ⌜ Acts (isEmpty call && ltb x count && validPair (getD gates x noGate .pair .pc) (getD gates x noGate .pair .timing) && flows (getD gates x noGate .pair .pc) p && flows (getD gates x noGate .pair .timing) p && flows lb p) (openGate (getD gates x noGate)) r ⌝ }
+{
+    if is_empty(call) {
+        if x < count {
+            let i = index(x);
+            let gate = gates[i];
+            let pair = gate.pair;
+            if may_enter(pair.pc, pair.timing, lb, p) {
+                return Act::OpenGate(gate);
+            }
+        }
+    }
+    Act::Pass
+}
+
+fn close_gate(p: u8, t: u8, call: Call) -> Act
+    ensures { λ r. ⌜ Acts (isGate call && flows (join p t) (meet (pairOf call .pc) (pairOf call .timing))) closeGate r ⌝ }
+{
+    let q = kept_pair(call);
+    if is_gate(call) {
+        if Label(p)
+            .join(Label(t))
+            .flows_to(Label(q.pc).meet(Label(q.timing))) {
+            return Act::CloseGate;
+        }
+    }
+    Act::Pass
+}
+
+// ---- the verdict
+
+// An act in so many ticks, unless it finishes past the end tick of the upcall.
+fn in_time(up: bool, end: u64, clock: u32, ticks: u32, act: Act) -> Verdict
+    requires { ⌜ clock + ticks < 2 ^ 32 ⌝ }
+    ensures { λ r. ⌜ Timely up end clock ticks act r ⌝ }
+{
+    if up {
+        if end < (clock + ticks) as u64 {
+            return Verdict::Close(2);
+        }
+    }
+    Verdict::Carry(ticks, act)
+}
+
+// A failed fetch.
+fn fault(up: bool, pc: u32, errorpc: u32, why: u8) -> Verdict
+    ensures { λ r. ⌜ (decisionOf r ≡ cond up (close 3) (cond (eqb pc errorpc) (stall why) (carry 1 (goto errorpc)))) × Held r pc × Short r ⌝ }
+{
+    if up {
+        return Verdict::Close(3);
+    }
+    if pc == errorpc {
+        return Verdict::Stall(why);
+    }
+    Verdict::Carry(1, Act::Goto(errorpc))
+}
+
+// An op that would finish past the deadline.
+fn late(up: bool) -> Verdict
+    ensures { λ r. ⌜ r ≡ cond up (Verdict.Close 2) Verdict.Spend ⌝ }
+{
+    if up {
+        Verdict::Close(2)
+    } else {
+        Verdict::Spend
+    }
+}
+
+// The ops 15 to 22, and an unknown one.
+fn rest(
+    w: u32,
+    pc: u32,
+    errorpc: u32,
+    p: u8,
+    t: u8,
+    clock: u32,
+    call: Call,
+    count: u32,
+    gates: [CallGate; 8],
+    values: &[u32; 16],
+    labels: &[u8; 16],
+) -> Verdict
+    requires { ⌜ Other w × (pc < 2048) × (clock ≤ 16777216) × (count ≤ 8) ⌝ }
+    ensures { λ r. ⌜ Rested w pc errorpc p t clock call count gates (now (values .entry)) (now (labels .entry)) r ⌝ }
+{
+    let up = is_upcall(call);
+    let end = end_tick(call);
+    let a = a_of(w);
+    let b = b_of(w);
+    let c = c_of(w);
+    let d = d_of(w);
+    let x = values[b];
+    let y = values[c];
+    let la = labels[a];
+    let lb = labels[b];
+    let lc = labels[c];
+    match op_of(w) {
+        15 => in_time(
+            up,
+            end,
+            clock,
+            2,
+            set_label(may_raise(x, la, p), a, x, lb, p),
+        ),
+        16 => in_time(
+            up,
+            end,
+            clock,
+            2,
+            set_label(may_relabel(x, la, p), a, x, lb, p),
+        ),
+        17 => in_time(
+            up,
+            end,
+            clock,
+            2,
+            set_pair(new_pair_allowed(x, y, lb, lc, p), x, y, p, t),
+        ),
+        18 => in_time(
+            up,
+            end,
+            clock,
+            2,
+            open_upcall(
+                up,
+                new_pair_allowed(x, y, lb, lc, p),
+                x,
+                y,
+                p,
+                t,
+                la,
+                labels[d],
+                values[a],
+                values[d],
+                clock,
+            ),
+        ),
+        19 => end_upcall(up),
+        20 => in_time(up, end, clock, 4, open_gate(x, lb, p, call, count, gates)),
+        21 => in_time(up, end, clock, 4, close_gate(p, t, call)),
+        22 => halt(up),
+        _ => fault(up, pc, errorpc, 3),
+    }
+}
+
+// Op 19.
+fn end_upcall(up: bool) -> Verdict
+    ensures { λ r. ⌜ r ≡ cond up (Verdict.Close 1) (Verdict.Carry 1 Act.Pass) ⌝ }
+{
+    if up {
+        Verdict::Close(1)
+    } else {
+        Verdict::Carry(1, Act::Pass)
+    }
+}
+
+// Op 22.
+fn halt(up: bool) -> Verdict
+    ensures { λ r. ⌜ r ≡ cond up (Verdict.Close 3) (Verdict.Carry 1 Act.Halt) ⌝ }
+{
+    if up {
+        Verdict::Close(3)
+    } else {
+        Verdict::Carry(1, Act::Halt)
+    }
+}
+
+// What is to be done for a reason to stop, but for the limit.
+fn plan(
+    stop: Stop,
+    pc: u32,
+    errorpc: u32,
+    p: u8,
+    t: u8,
+    clock: u32,
+    call: Call,
+    count: u32,
+    gates: [CallGate; 8],
+    values: &[u32; 16],
+    labels: &[u8; 16],
+) -> Verdict
+    requires { ⌜ Ready stop pc × (clock ≤ 16777216) × (count ≤ 8) ⌝ }
+    ensures { λ r. ⌜ Planned stop pc errorpc p t clock call count gates (now (values .entry)) (now (labels .entry)) r ⌝ }
+{
+    match stop {
+        Stop::Out => Verdict::Spend,
+        Stop::Late => late(is_upcall(call)),
+        Stop::Outside => fault(is_upcall(call), pc, errorpc, 1),
+        Stop::Unreadable => fault(is_upcall(call), pc, errorpc, 2),
+        Stop::Failed => Verdict::Close(3),
+        Stop::Rest(w) => rest(
+            w,
+            pc,
+            errorpc,
+            p,
+            t,
+            clock,
+            call,
+            count,
+            gates,
+            values,
+            labels,
+        ),
+    }
+}
+
+// The verdict held against the limit: where it finishes beyond, or the limit is reached, the clock is spent.
+fn in_limit(d: Verdict, clock: u32, limit: u32, end: u64) -> Verdict
+    requires { ⌜ (clock ≤ limit) × (limit ≤ 16777216) × Short d ⌝ }
+    ensures { λ r. ⌜ Limited d clock limit end r ⌝ }
+{
+    if clock == limit {
+        return Verdict::Spend;
+    }
+    match d {
+        Verdict::Spend => Verdict::Spend,
+        Verdict::Stall(why) => Verdict::Stall(why),
+        Verdict::Close(cause) => if end < limit as u64 {
+            Verdict::Close(cause)
+        } else {
+            Verdict::Spend
+        },
+        Verdict::Carry(ticks, act) => if clock + ticks <= limit {
+            Verdict::Carry(ticks, act)
+        } else {
+            Verdict::Spend
+        },
+    }
+}
+
+// What is to be done for a reason to stop.
+pub(crate) fn decide(
+    stop: Stop,
+    pc: u32,
+    errorpc: u32,
+    limit: u32,
+    p: u8,
+    t: u8,
+    clock: u32,
+    call: Call,
+    count: u32,
+    gates: [CallGate; 8],
+    values: &[u32; 16],
+    labels: &[u8; 16],
+) -> Verdict
+    requires { ⌜ Ready stop pc × (clock ≤ limit) × (limit ≤ 16777216) × (count ≤ 8) ⌝ }
+    ensures { λ r. ⌜ Decided stop pc errorpc limit p t clock call count gates (now (values .entry)) (now (labels .entry)) r ⌝ }
+{
+    in_limit(
+        plan(
+            stop,
+            pc,
+            errorpc,
+            p,
+            t,
+            clock,
+            call,
+            count,
+            gates,
+            values,
+            labels,
+        ),
+        clock,
+        limit,
+        end_tick(call),
+    )
+}

@@ -1,0 +1,50 @@
+// A word of the program taken apart: the op's number, the register numbers a, b, c and d, and the number n.
+ghost use mathlib.Core.Path.{_≡_};
+ghost use Rattle.model.specs.Word.{opField, aField, bField, cField, dField, nField};
+ghost use Rattle.machine.specs.Common.{Register};
+
+// The op's number.
+pub(crate) fn op_of(w: u32) -> u32
+    ensures { λ r. ⌜ r ≡ opField w ⌝ }
+{
+    w / 16777216
+}
+
+// The register numbers.
+pub(crate) fn a_of(w: u32) -> usize
+    ensures { λ r. ⌜ Register (aField w) r ⌝ }
+{
+    (w / 1048576 % 16) as usize
+}
+
+pub(crate) fn b_of(w: u32) -> usize
+    ensures { λ r. ⌜ Register (bField w) r ⌝ }
+{
+    (w / 65536 % 16) as usize
+}
+
+pub(crate) fn c_of(w: u32) -> usize
+    ensures { λ r. ⌜ Register (cField w) r ⌝ }
+{
+    (w % 65536 / 4096) as usize
+}
+
+pub(crate) fn d_of(w: u32) -> usize
+    ensures { λ r. ⌜ Register (dField w) r ⌝ }
+{
+    (w % 65536 / 256 % 16) as usize
+}
+
+// The number n.
+pub(crate) fn n_of(w: u32) -> u32
+    ensures { λ r. ⌜ r ≡ nField w ⌝ }
+{
+    w % 65536
+}
+
+// A number as an index.
+pub(crate) fn index(n: u32) -> usize
+    ensures { λ r. ⌜ r ≡ n ⌝ }
+{
+    n as usize
+}
