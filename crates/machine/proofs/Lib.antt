@@ -1,3 +1,5 @@
+-- Laws that the proofs of the functions cite: numbers, a turn of the hot loop, the loop, what is decided where it stops, a
+-- verdict carried out, the steps in turn, and the whole record.
 pub mod Numbers
 pub mod Turns
 pub mod Loop
