@@ -1,0 +1,40 @@
+-- What the line writer answers.
+-- Assumes nothing.
+use Prim.Native.Nat.{ℕ, _≤_}
+use mathlib.Core.Path.{_≡_}
+use mathlib.Core.Bool.{_&&_, cond}
+use mathlib.Core.List.{List, _++_}
+use lib.Dec.{leb}
+use lib.ListN.{length, drop}
+use Rattle.model.specs.Listing.{line}
+
+-- A text written over the beginning of an output: what stands behind it stays.
+unfoldable pub over : List ℕ → List ℕ → List ℕ
+over text out = text ++ drop (length text) out
+
+-- The text was written over the beginning of `before`, where it fits: its length was given, and this is the output
+-- afterwards.
+pub record Wrote (text before : List ℕ) (given : ℕ) (after : List ℕ) : Type 0 where
+  pub fits : length text ≤ length before
+  pub count : given ≡ length text
+  pub output : after ≡ over text before
+
+-- The length of a line with these fields, whatever its letter; 0 where there are more than six.
+unfoldable pub lineLength : List ℕ → ℕ
+lineLength ns = cond (leb (length ns) 6) (length (line 0 ns)) 0
+
+-- The answer of the line writer: how many bytes it wrote, and the output at exit.
+pub record Writing : Type 0 where
+  pub count : ℕ
+  pub output : List ℕ
+
+-- An answer put together.
+abbrev pub answer : ℕ → List ℕ → Writing
+answer n out = record { count = n; output = out }
+
+-- A line of up to six fields is written where it fits, else nothing is.
+unfoldable pub writing : ℕ → List ℕ → List ℕ → Writing
+writing letter ns out =
+    cond (leb (length ns) 6 && leb (length (line letter ns)) (length out))
+    (answer (length (line letter ns)) (over (line letter ns) out))
+    (answer 0 out)
