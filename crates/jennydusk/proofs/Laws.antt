@@ -1,0 +1,94 @@
+-- From what the functions below promise to what the calls promise.
+-- Assumes nothing.
+use Prim.Native.Nat.{ℕ, _^_, _≤_}
+use native.Mathlib.Omega.{arith}
+use mathlib.Core.Path.{_≡_, refl, ap, _∙_}
+use mathlib.Core.List.{List}
+use Rattle.model.specs.Record.{Bank, Machine}
+use Rattle.model.specs.Answer as model
+use Rattle.model.specs.Load as loading
+use Rattle.model.specs.Listing as listing
+use Rattle.model.proofs.Truth.{clash}
+use Rattle.machine.specs.declared.Answer as struct
+use Rattle.machine.specs.Answered.{recordOf, numberOf, answered}
+use Rattle.image.specs.declared.load.Loaded.{Loaded}
+use Rattle.image.specs.declared.print.Printed.{Printed}
+use Rattle.image.specs.declared.print.Outcome.{Outcome}
+use Rattle.image.specs.declared.print.Outcome.the-variants.{Written, IllFormed, ShortMemory, ShortOutput}
+use Rattle.image.specs.Load as load
+use Rattle.image.specs.Printing as print
+use Rattle.layout.specs.declared.Reading.{Reading}
+use Rattle.layout.specs.declared.Found.the-variants as found
+use Rattle.layout.specs.Layout.{Holding, holds, nothing}
+use Rattle.layout.specs.Reading.{Read, given, isFound, readOf}
+use Rattle.jennydusk.specs.Calls.{left, untouched, kept, afterAnswer, called, counted, afterLoading, shown, afterPrinting, printed}
+use Rattle.jennydusk.proofs.Length.{bytes-most}
+
+-- ---- what reading a buffer tells
+
+module _ (x : Reading) where
+  no-record : {r : Machine} {P : Type 0} → readOf x ≡ given (holds r) → x .found ≡ found.Nothing → P
+  no-record e n = clash (ap (λ (y : Read). y .found) e) (ap isFound n)
+
+  some-record : {P : Type 0} → readOf x ≡ given nothing → x .found ≡ found.Record → P
+  some-record e n = clash (ap isFound n) (ap (λ (y : Read). y .found) e)
+
+  same-record : {r : Machine} → readOf x ≡ given (holds r) → recordOf (x .machine) ≡ r
+  same-record e = ap (λ (y : Read). y .machine) e
+
+-- ---- step and run
+
+module _ (f : Machine → Bank → model.Answer) (b : List ℕ) (m : Bank) (x : Reading) where
+  -- A buffer that holds no record.
+  pub not-called : (h : Holding) → readOf x ≡ given h → x .found ≡ found.Nothing → untouched 7 b m ≡ called f h b m
+  not-called (holds r) e n = no-record x e n
+  not-called nothing e n = refl
+
+  -- A buffer that holds one.
+  pub was-called :
+      (h : Holding) (a : struct.Answer) {number : ℕ} {buffer words labels : List ℕ} → readOf x ≡ given h
+      → x .found ≡ found.Record → answered a words labels ≡ f (recordOf (x .machine)) m → number ≡ numberOf (a .outcome)
+      → buffer ≡ kept number (recordOf (a .machine)) b → left number buffer words labels ≡ called f h b m
+  was-called (holds r) a {number} {buffer} {words} {labels} e n s c k =
+      rw (k, c) (ap (λ (z : model.Answer). afterAnswer z b) (s ∙ ap (λ (y : Machine). f y m) (same-record x e)))
+  was-called nothing a e n s c k = some-record x e n
+
+-- ---- load
+
+-- A buffer that is long enough.
+pub was-loaded :
+    (text : List ℕ) (m : Bank) (b : List ℕ) (a : Loaded) {number line answer : ℕ} {buffer words labels : List ℕ}
+    → load.loadingOf a words labels ≡ loading.load text m → number ≡ load.numberOf (a .verdict) → line ≡ load.lineOf (a .verdict)
+    → buffer ≡ kept number (recordOf (a .machine)) b → answer ≡ counted number line
+    → left answer buffer words labels ≡ afterLoading (loading.load text m) b
+was-loaded text m b a e n l k c = rw (k, c, n, l) (ap (λ (z : loading.Loading). afterLoading z b) e)
+
+-- ---- print
+
+-- The numbers and the lengths that print answers fit an answer.
+pub small-number : (o : Outcome) → print.numberOf o ≤ 255
+small-number (Written n) = omega arith
+small-number IllFormed = omega arith
+small-number ShortMemory = omega arith
+small-number ShortOutput = omega arith
+
+pub small-length :
+    (r : Machine) (m : Bank) (before : List ℕ) (a : Printed) (after : List ℕ)
+    → print.printingOf a after ≡ listing.print r m before → print.lengthOf (a .outcome) ≤ 2 ^ 32
+small-length r m before a after e = rw (ap (λ (z : listing.Printing). z .bytes) e) (bytes-most r m before)
+
+module _ (m : Bank) (before : List ℕ) (x : Reading) where
+  -- A buffer that holds no record.
+  pub not-printed : (h : Holding) → readOf x ≡ given h → x .found ≡ found.Nothing → shown 7 before ≡ printed h m before
+  not-printed (holds r) e n = no-record x e n
+  not-printed nothing e n = refl
+
+  -- A buffer that holds one.
+  pub was-printed :
+      (h : Holding) (a : Printed) {number length answer : ℕ} {after : List ℕ} → readOf x ≡ given h → x .found ≡ found.Record
+      → print.printingOf a after ≡ listing.print (recordOf (x .machine)) m before → number ≡ print.numberOf (a .outcome)
+      → length ≡ print.lengthOf (a .outcome) → answer ≡ counted number length → shown answer after ≡ printed h m before
+  was-printed (holds r) a e n s k l c =
+      rw (c, k, l)
+      (ap afterPrinting (s ∙ ap (λ (y : Machine). listing.print y m before) (same-record x e)))
+  was-printed nothing a e n s k l c = some-record x e n

@@ -1,0 +1,2 @@
+mod Length
+mod Laws

@@ -1,0 +1,74 @@
+-- `jennydusk::jennydusk_load` meets its contract. The first test is the definition's; then the answer of load is handed on.
+-- Assumes nothing.
+use mathlib.Core.Path.{refl}
+use borrow.Author.Needs.{needs}
+use borrow.Author.Tests.{lt-leb, le-leb}
+use Rattle.machine.specs.Answered.{lent}
+use Rattle.jennydusk.specs.Calls.{loadCall}
+use Rattle.jennydusk.proofs.Laws.{was-loaded}
+use Rattle.jennydusk.proofs.jennydusk_load.Statement.{statement}
+use Rattle.jennydusk.proofs.jennydusk_load.Tie as tie
+
+returns : tie.Need-returns
+unfolding loadCall
+returns c = rw (lt-leb 76 _ (c .if1 .taken)) refl
+
+load-requires : tie.Need-load-requires
+load-requires c κs = search needs
+
+refusal-of-requires : tie.Need-refusal-of-requires
+refusal-of-requires c κs = search needs
+
+cast-number : tie.Need-cast-number
+cast-number c = search needs
+
+keep-requires : tie.Need-keep-requires
+keep-requires c κs = search needs
+
+line-of-requires : tie.Need-line-of-requires
+line-of-requires c κs = search needs
+
+cast-counted : tie.Need-cast-counted
+cast-counted c = search needs
+
+counted-requires : tie.Need-counted-requires
+counted-requires c κs = search needs
+
+same-length : tie.Need-same-length
+same-length c = search needs
+
+same-length-2 : tie.Need-same-length-2
+same-length-2 c = search needs
+
+same-length-3 : tie.Need-same-length-3
+same-length-3 c = search needs
+
+returns-2 : tie.Need-returns-2
+unfolding loadCall
+returns-2 c =
+    let kept = c .before .before .before .before in
+    let judged = kept .before .before in
+    let loading = judged .before .before .before .before .before .before in
+    let long = loading .before .before .before in
+    let start = long .before .before .before .before .before in
+    rw (le-leb 76 _ (long .if1 .left))
+    (was-loaded (start .args .text .now) (lent (start .args .words .now) (start .args .labels .now))
+    (start .args .«record» .now) (loading .load .result) (loading .load .ensures) (judged .refusal-of .ensures)
+    (c .before .line-of .ensures) (kept .keep .ensures) (c .counted .ensures))
+
+pub jennydusk-load-spec : {M : Type 1} → statement M
+jennydusk-load-spec =
+    tie.close
+    (tie.spec
+    returns
+    load-requires
+    refusal-of-requires
+    cast-number
+    keep-requires
+    line-of-requires
+    cast-counted
+    counted-requires
+    same-length
+    same-length-2
+    same-length-3
+    returns-2)

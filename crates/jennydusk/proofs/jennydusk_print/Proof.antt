@@ -1,0 +1,76 @@
+-- `jennydusk::jennydusk_print` meets its contract. The answer of print is handed on; a listing is short enough for its length to fit the answer.
+-- Assumes nothing.
+use borrow.Author.Needs.{needs}
+use Rattle.machine.specs.Answered.{recordOf, lent}
+use Rattle.layout.specs.Layout.{machineIn}
+use Rattle.layout.specs.Reading as reading
+use Rattle.jennydusk.specs.Calls.{printCall}
+use Rattle.jennydusk.proofs.Laws.{small-number, small-length, not-printed, was-printed}
+use Rattle.jennydusk.proofs.jennydusk_print.Statement.{statement}
+use Rattle.jennydusk.proofs.jennydusk_print.Tie as tie
+
+read-requires : tie.Need-read-requires
+read-requires c κs = search needs
+
+enum-told : tie.Need-enum-told
+enum-told c = search needs
+
+returns : tie.Need-returns
+unfolding printCall reading.read
+returns c =
+    let reading = c .before .before in
+    let start = reading .before .before .before .before .before in
+    not-printed (lent (start .args .words .now) (start .args .labels .now)) (start .args .out .now) (reading .read .result)
+    (machineIn (start .args .«record» .now)) (reading .read .ensures) (c .enum-told .given .1)
+
+enum-told-2 : tie.Need-enum-told-2
+enum-told-2 c = search needs
+
+print-requires : tie.Need-print-requires
+print-requires c κs = search needs
+
+print-number-of-requires : tie.Need-print-number-of-requires
+print-number-of-requires c κs = search needs
+
+length-of-requires : tie.Need-length-of-requires
+length-of-requires c κs = search needs
+
+counted-requires : tie.Need-counted-requires
+counted-requires c κs =
+    let written = c .before .before .before .before in
+    let reading = written .before .before .before .before .before in
+    let start = reading .before .before .before .before .before in (
+      rw (c .before .print-number-of .ensures) (small-number (written .print .result .outcome)),
+      rw (c .length-of .ensures)
+          (small-length (recordOf (reading .read .result .machine)) (lent (start .args .words .now) (start .args .labels .now))
+          (start .args .out .now) (written .print .result) _ (written .print .ensures)),
+    )
+
+same-length : tie.Need-same-length
+same-length c = search needs
+
+returns-2 : tie.Need-returns-2
+unfolding printCall reading.read
+returns-2 c =
+    let written = c .before .before .before .before .before in
+    let found = written .before .before .before in
+    let reading = found .before .before in
+    let start = reading .before .before .before .before .before in
+    was-printed (lent (start .args .words .now) (start .args .labels .now)) (start .args .out .now) (reading .read .result)
+    (machineIn (start .args .«record» .now)) (written .print .result) (reading .read .ensures) (found .enum-told2 .given .1)
+    (written .print .ensures) (c .before .before .print-number-of .ensures) (c .before .length-of .ensures) (c .counted .ensures)
+
+pub jennydusk-print-spec : {M : Type 1} → statement M
+jennydusk-print-spec =
+    tie.close
+    (tie.spec
+    read-requires
+    enum-told
+    returns
+    enum-told-2
+    print-requires
+    print-number-of-requires
+    length-of-requires
+    counted-requires
+    same-length
+    returns-2)

@@ -1,0 +1,170 @@
+// The machine for programs in other languages: load, step, run and print over buffers that the caller lends. A record
+// stands in a buffer of 64-bit words, as the crate layout has it. Nothing is kept between calls.
+use image::load::Verdict;
+use image::load::load;
+use image::print::Outcome as PrintOutcome;
+use image::print::print;
+use layout::Found;
+use machine::Machine;
+use machine::Outcome;
+ghost use Prim.Native.Nat.{_≤_, _^_};
+ghost use mathlib.Core.Path.{_≡_};
+ghost use Rattle.machine.specs.Answered.{recordOf, numberOf, lent};
+ghost use Rattle.image.specs.Load.{numberOf as Load·numberOf, lineOf};
+ghost use Rattle.image.specs.Printing.{numberOf as Printing·numberOf, lengthOf};
+ghost use Rattle.jennydusk.specs.Calls.{left, kept, counted, shown, loadCall, stepCall, runCall, printCall};
+
+// The answer for a buffer that holds no record.
+const NO_RECORD: u64 = 7;
+
+// The number of an outcome: 0 for a call that was carried out, 7 and 6 for the refusals.
+fn number_of(outcome: Outcome) -> u64
+    ensures { λ r. ⌜ r ≡ numberOf outcome ⌝ }
+{
+    match outcome {
+        Outcome::Done => 0,
+        Outcome::IllFormed => 7,
+        Outcome::ShortMemory => 6,
+    }
+}
+
+// Writes the record, unless the call with this number was refused.
+fn keep(number: u64, machine: Machine, record: &mut [u64])
+    ensures { λ r. ⌜ now («record» .exit) ≡ kept number (recordOf machine) (now («record» .entry)) ⌝ }
+{
+    if number == 0 {
+        layout::write(machine, record);
+    }
+}
+
+// A number and a count in one answer.
+fn counted(number: u64, count: u64) -> u64
+    requires { ⌜ (number ≤ 255) × (count ≤ 2 ^ 32) ⌝ }
+    ensures { λ r. ⌜ r ≡ counted number count ⌝ }
+{
+    number + 256 * count
+}
+
+// The number of a verdict: 0 where the text was accepted.
+fn refusal_of(verdict: Verdict) -> u8
+    ensures { λ r. ⌜ r ≡ Load·numberOf verdict ⌝ }
+{
+    match verdict {
+        Verdict::Accepted => 0,
+        Verdict::Refused(number, _) => number,
+    }
+}
+
+// The line of a verdict: 0 where the text was accepted.
+fn line_of(verdict: Verdict) -> u32
+    ensures { λ r. ⌜ r ≡ lineOf verdict ⌝ }
+{
+    match verdict {
+        Verdict::Accepted => 0,
+        Verdict::Refused(_, line) => line,
+    }
+}
+
+// The number of a print's outcome: 0 where the listing was written.
+fn print_number_of(outcome: PrintOutcome) -> u64
+    ensures { λ r. ⌜ r ≡ Printing·numberOf outcome ⌝ }
+{
+    match outcome {
+        PrintOutcome::Written(_) => 0,
+        PrintOutcome::IllFormed => 7,
+        PrintOutcome::ShortMemory => 6,
+        PrintOutcome::ShortOutput => 8,
+    }
+}
+
+// The listing's length: 0 where none was written.
+fn length_of(outcome: PrintOutcome) -> usize
+    ensures { λ r. ⌜ r ≡ lengthOf outcome ⌝ }
+{
+    match outcome {
+        PrintOutcome::Written(length) => length,
+        PrintOutcome::IllFormed => 0,
+        PrintOutcome::ShortMemory => 0,
+        PrintOutcome::ShortOutput => 0,
+    }
+}
+
+// Loads a text: the record goes to its buffer, and the memory to words and labels.
+#[no_mangle]
+pub extern "C" fn jennydusk_load(
+    text: &[u8],
+    words: &mut [u32],
+    labels: &mut [u8],
+    record: &mut [u64],
+) -> u64
+    ensures { λ r. ⌜ left r (now («record» .exit)) (now (words .exit)) (now (labels .exit)) ≡ loadCall (now (text .entry)) (lent (now (words .entry)) (now (labels .entry))) (now («record» .entry)) ⌝ }
+{
+    if record.len() < layout::SPAN {
+        return NO_RECORD;
+    }
+    let loaded = load(text, words, labels);
+    let verdict = loaded.verdict;
+    let machine = loaded.machine;
+    let number = refusal_of(verdict) as u64;
+    keep(number, machine, record);
+    counted(number, line_of(verdict) as u64)
+}
+
+// One step of the record.
+#[no_mangle]
+pub extern "C" fn jennydusk_step(record: &mut [u64], words: &mut [u32], labels: &mut [u8]) -> u64
+    ensures { λ r. ⌜ left r (now («record» .exit)) (now (words .exit)) (now (labels .exit)) ≡ stepCall (now («record» .entry)) (lent (now (words .entry)) (now (labels .entry))) ⌝ }
+{
+    let reading = layout::read(record);
+    let found = reading.found;
+    if let Found::Nothing = found {
+        return NO_RECORD;
+    }
+    let machine = reading.machine;
+    let answer = machine.step(words, labels);
+    let outcome = answer.outcome;
+    let next = answer.machine;
+    let number = number_of(outcome);
+    keep(number, next, record);
+    number
+}
+
+// Steps of the record until its end isn't 0.
+#[no_mangle]
+pub extern "C" fn jennydusk_run(record: &mut [u64], words: &mut [u32], labels: &mut [u8]) -> u64
+    ensures { λ r. ⌜ left r (now («record» .exit)) (now (words .exit)) (now (labels .exit)) ≡ runCall (now («record» .entry)) (lent (now (words .entry)) (now (labels .entry))) ⌝ }
+{
+    let reading = layout::read(record);
+    let found = reading.found;
+    if let Found::Nothing = found {
+        return NO_RECORD;
+    }
+    let machine = reading.machine;
+    let answer = machine.run(words, labels);
+    let outcome = answer.outcome;
+    let next = answer.machine;
+    let number = number_of(outcome);
+    keep(number, next, record);
+    number
+}
+
+// Writes the listing of the record and its memory into `out`.
+#[no_mangle]
+pub extern "C" fn jennydusk_print(
+    record: &[u64],
+    words: &[u32],
+    labels: &[u8],
+    out: &mut [u8],
+) -> u64
+    ensures { λ r. ⌜ shown r (now (out .exit)) ≡ printCall (now («record» .entry)) (lent (now (words .entry)) (now (labels .entry))) (now (out .entry)) ⌝ }
+{
+    let reading = layout::read(record);
+    let found = reading.found;
+    if let Found::Nothing = found {
+        return NO_RECORD;
+    }
+    let machine = reading.machine;
+    let printed = print(machine, words, labels, out);
+    let outcome = printed.outcome;
+    counted(print_number_of(outcome), length_of(outcome) as u64)
+}

@@ -1,0 +1,53 @@
+-- `layout::read` meets its contract. The words of what was read, put into an array of zeros, are compared with the buffer.
+-- Assumes nothing.
+use borrow.Author.Needs.{needs}
+use Rattle.layout.proofs.Laws.{read-found, read-nothing}
+use Rattle.layout.proofs.read.Statement.{statement}
+use Rattle.layout.proofs.read.Tie as tie
+
+machine-in-requires : tie.Need-machine-in-requires
+machine-in-requires c κs = search needs
+
+slice-aggregate-put-machine : tie.Need-slice-aggregate-put-machine
+slice-aggregate-put-machine c = search needs
+
+put-machine-requires : tie.Need-put-machine-requires
+put-machine-requires c κs = search needs
+
+slice-aggregate-begins : tie.Need-slice-aggregate-begins
+slice-aggregate-begins c = search needs
+
+begins-requires : tie.Need-begins-requires
+begins-requires c κs = search needs
+
+returns : tie.Need-returns
+returns c =
+    let put = c .before .before .before .before in
+    let cut = put .before .before in
+    let start = cut .before .before in
+    read-found (start .args .buffer .now) (cut .machine-in .ensures) (put .put-machine .ensures) (c .before .begins .ensures)
+    (c .if1 .taken)
+
+no-machine-requires : tie.Need-no-machine-requires
+no-machine-requires c κs = search needs
+
+returns-2 : tie.Need-returns-2
+returns-2 c =
+    let put = c .before .before .before .before .before in
+    let cut = put .before .before in
+    let start = cut .before .before in
+    read-nothing (start .args .buffer .now) (cut .machine-in .ensures) (put .put-machine .ensures)
+    (c .before .before .begins .ensures) (c .before .if1 .left) (c .no-machine .ensures)
+
+pub read-spec : {M : Type 1} → statement M
+read-spec =
+    tie.close
+    (tie.spec
+    machine-in-requires
+    slice-aggregate-put-machine
+    put-machine-requires
+    slice-aggregate-begins
+    begins-requires
+    returns
+    no-machine-requires
+    returns-2)

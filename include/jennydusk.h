@@ -1,0 +1,94 @@
+/* The labelled kiln machine: load, step, run and print over buffers that the caller lends.
+ *
+ * Every call gets each buffer as a pointer and a length in elements. A pointer is aligned and not null, at length 0 too;
+ * a buffer that a call may change overlaps no other one. Nothing is kept between calls. No call reads or writes behind
+ * a length that it was given. */
+#ifndef JENNYDUSK_H
+#define JENNYDUSK_H
+
+#include <stddef.h>
+#include <stdint.h>
+
+#ifdef __cplusplus
+extern "C" {
+#endif
+
+/* ---- the record: a buffer of at least so many words, one number a word. What lies behind them is left. */
+#define JENNYDUSK_SPAN 76
+
+#define JENNYDUSK_SIZE 0       /* words of memory, 1 to 2048 */
+#define JENNYDUSK_LIMIT 1      /* ticks, 1 to 16777216 */
+#define JENNYDUSK_ERROR_PC 2   /* where a failed fetch goes on */
+#define JENNYDUSK_GATE_COUNT 3 /* 0 to 8 */
+#define JENNYDUSK_GATE(k) (4 + 3 * (k)) /* gate k, 0 to 7: its entry, pc label and timing label */
+#define JENNYDUSK_PC 28
+#define JENNYDUSK_PC_LABEL 29
+#define JENNYDUSK_TIMING_LABEL 30
+#define JENNYDUSK_CLOCK 31
+#define JENNYDUSK_CALL(k) (32 + 5 * (k)) /* open call k, 0 or 1, the older first: five words, as below */
+#define JENNYDUSK_END 42
+#define JENNYDUSK_WHY 43
+#define JENNYDUSK_VALUE(k) (44 + (k)) /* the value of register k, 0 to 15 */
+#define JENNYDUSK_LABEL(k) (60 + (k)) /* its label */
+
+/* The five words of an open call, counted from JENNYDUSK_CALL(k). They are 0 where a call of its kind keeps nothing. */
+#define JENNYDUSK_CALL_KIND 0
+#define JENNYDUSK_CALL_RETURN_PC 1
+#define JENNYDUSK_CALL_PC_LABEL 2
+#define JENNYDUSK_CALL_TIMING_LABEL 3
+#define JENNYDUSK_CALL_END_TICK 4
+
+/* The kinds of a call. */
+#define JENNYDUSK_EMPTY 0
+#define JENNYDUSK_GATE_CALL 1
+#define JENNYDUSK_UPCALL 2
+
+/* The ends, and why a run stalled: the pc is not below the size, the word's label doesn't flow to the pc label, the op is
+ * unknown. */
+#define JENNYDUSK_RUNNING 0
+#define JENNYDUSK_HALTED 1
+#define JENNYDUSK_CLOCK_SPENT 2
+#define JENNYDUSK_STALLED 3
+#define JENNYDUSK_WHY_PC 1
+#define JENNYDUSK_WHY_LABEL 2
+#define JENNYDUSK_WHY_OP 3
+
+/* ---- answers: a number, with a line or a length above it */
+#define JENNYDUSK_NUMBER(answer) ((unsigned)((answer) % 256))
+#define JENNYDUSK_COUNT(answer) ((size_t)((answer) / 256))
+
+#define JENNYDUSK_DONE 0
+#define JENNYDUSK_TEXT_LENGTH 1  /* the text is empty or above 65535 bytes; line 0 */
+#define JENNYDUSK_MALFORMED 2    /* letter, field count, digits or a missing LF; the first line is no M */
+#define JENNYDUSK_RANGE 3        /* a number outside its range; a ninth G */
+#define JENNYDUSK_ORDER 4        /* a kind out of order, a second M, a number that isn't rising */
+#define JENNYDUSK_PAIR 5         /* the pair of the M line is not valid */
+#define JENNYDUSK_SHORT_MEMORY 6 /* words or labels shorter than the size */
+#define JENNYDUSK_NO_RECORD 7    /* the record is not well-formed, or the buffer holds none: it is shorter than
+                                  * JENNYDUSK_SPAN, or a word is outside its field's range, or a call's words are none */
+#define JENNYDUSK_SHORT_OUTPUT 8 /* the output is shorter than the listing */
+
+/* ---- the calls. A refused call leaves the record, words, labels and output as they were. */
+
+/* Loads a text. The record goes to its buffer, the memory to words and labels below the size. Answers a number, 0 to 7,
+ * and 256 times the line that was refused. A record buffer shorter than JENNYDUSK_SPAN is 7, before the text is read. */
+uint64_t jennydusk_load(const uint8_t *text, size_t text_length, uint32_t *words, size_t words_length, uint8_t *labels,
+                        size_t labels_length, uint64_t *record, size_t record_length);
+
+/* Does one step. Answers 0, 6 or 7. An ended record steps to itself. */
+uint64_t jennydusk_step(uint64_t *record, size_t record_length, uint32_t *words, size_t words_length, uint8_t *labels,
+                        size_t labels_length);
+
+/* Steps until the end isn't 0. Answers 0, 6 or 7. */
+uint64_t jennydusk_run(uint64_t *record, size_t record_length, uint32_t *words, size_t words_length, uint8_t *labels,
+                       size_t labels_length);
+
+/* Writes the listing at the start of the output. Answers 0 and 256 times the listing's length, or 6, 7 or 8. */
+uint64_t jennydusk_print(const uint64_t *record, size_t record_length, const uint32_t *words, size_t words_length,
+                         const uint8_t *labels, size_t labels_length, uint8_t *output, size_t output_length);
+
+#ifdef __cplusplus
+}
+#endif
+
+#endif
