@@ -106,7 +106,7 @@ fn restored(first: Call, second: Call, end: u8, why: u8, clock: u32) -> Control
 }
 
 // A control of its parts.
-fn control_of(
+pub(crate) fn control_of(
     pc: u32,
     pair: Pair,
     clock: u32,

@@ -43,6 +43,40 @@ pub struct Turn {
     pub stop: Stop,
 }
 
+// What stays the same while the hot loop runs: the size, the pc label and the timing label, whether an upcall is open, and
+// the tick by which an op has to finish.
+pub struct Context {
+    pub size: u32,
+    pub p: u8,
+    pub t: u8,
+    pub up: bool,
+    pub deadline: u32,
+}
+
+// A turn that did a step.
+fn going(pc: u32, clock: u32) -> Turn
+    ensures { λ r. ⌜ r ≡ going pc clock ⌝ }
+{
+    Turn {
+        done: true,
+        pc,
+        clock,
+        stop: Stop::Out,
+    }
+}
+
+// A turn that did no step.
+fn stopping(stop: Stop, pc: u32, clock: u32) -> Turn
+    ensures { λ r. ⌜ r ≡ stopping stop pc clock ⌝ }
+{
+    Turn {
+        done: false,
+        pc,
+        clock,
+        stop,
+    }
+}
+
 // Whether the join of the first two labels flows to the last.
 fn two_flow(x: u8, y: u8, to: u8) -> bool
     ensures { λ r. ⌜ r ≡ flows (join x y) to ⌝ }
@@ -71,8 +105,15 @@ fn less(x: u32, y: u32) -> u32
     if x < y { 1 } else { 0 }
 }
 
+// x and y, without the carry out of 32 bits.
+fn plus(x: u32, y: u32) -> u32
+    ensures { λ r. ⌜ r ≡ compute addition x y ⌝ }
+{
+    std::num::wrapping_add_u32(x, y)
+}
+
 // x less y, without the borrow out of 32 bits.
-fn difference(x: u32, y: u32) -> u32
+fn minus(x: u32, y: u32) -> u32
     ensures { λ r. ⌜ r ≡ compute subtract x y ⌝ }
 {
     std::num::wrapping_sub_u32(x, y)
@@ -97,7 +138,7 @@ fn multiply_ticks(visible: bool, y: u32) -> u32
 }
 
 // Where a branch goes on.
-fn picked(taken: bool, target: u32, pc: u32) -> u32
+fn pick(taken: bool, target: u32, pc: u32) -> u32
     requires { ⌜ pc < 2048 ⌝ }
     ensures { λ r. ⌜ r ≡ cond taken target (pc + 1) ⌝ }
 {
@@ -117,78 +158,62 @@ fn put(values: &mut [u32; 16], a: usize, ok: bool, v: u32)
 // Register a gets v if the check passed, in so many ticks.
 fn assign(
     values: &mut [u32; 16],
+    context: Context,
     a: usize,
     ok: bool,
     v: u32,
     ticks: u32,
     pc: u32,
     clock: u32,
-    deadline: u32,
 ) -> Turn
     requires { ⌜ (a < 16) × (ticks ≤ 10) × (pc < 2048) × (clock ≤ 16777216) ⌝ }
-    ensures { λ r. ⌜ Assigned (now (values .entry)) a ok v ticks pc clock deadline r (now (values .exit)) ⌝ }
+    ensures { λ r. ⌜ Assigned (now (values .entry)) a ok v ticks pc clock (context .deadline) r (now (values .exit)) ⌝ }
 {
-    if clock + ticks <= deadline {
+    if clock + ticks <= context.deadline {
         put(values, a, ok, v);
-        Turn {
-            done: true,
-            pc: pc + 1,
-            clock: clock + ticks,
-            stop: Stop::Out,
-        }
-    } else {
-        Turn {
-            done: false,
-            pc,
-            clock,
-            stop: Stop::Late,
-        }
+        return going(pc + 1, clock + ticks);
     }
+    stopping(Stop::Late, pc, clock)
+}
+
+// Ops 2 to 8: register a gets v if their check passes.
+fn combine(
+    values: &mut [u32; 16],
+    context: Context,
+    a: usize,
+    la: u8,
+    lb: u8,
+    lc: u8,
+    v: u32,
+    ticks: u32,
+    pc: u32,
+    clock: u32,
+) -> Turn
+    requires { ⌜ (a < 16) × (ticks ≤ 10) × (pc < 2048) × (clock ≤ 16777216) ⌝ }
+    ensures { λ r. ⌜ Assigned (now (values .entry)) a (flows (join (join (context .p) lb) lc) la) v ticks pc clock (context .deadline) r (now (values .exit)) ⌝ }
+{
+    let ok = three_flow(context.p, lb, lc, la);
+    assign(values, context, a, ok, v, ticks, pc, clock)
 }
 
 // A branch or jump: it goes on at `target` if the check passed. In an upcall a failed check stops the loop.
-fn go(ok: bool, target: u32, up: bool, pc: u32, clock: u32, deadline: u32) -> Turn
+fn go(context: Context, ok: bool, target: u32, pc: u32, clock: u32) -> Turn
     requires { ⌜ (pc < 2048) × (clock ≤ 16777216) ⌝ }
-    ensures { λ r. ⌜ Gone ok target up pc clock deadline r ⌝ }
+    ensures { λ r. ⌜ Gone ok target (context .up) pc clock (context .deadline) r ⌝ }
 {
     if ok {
-        if clock + 1 <= deadline {
-            return Turn {
-                done: true,
-                pc: target,
-                clock: clock + 1,
-                stop: Stop::Out,
-            };
+        if clock + 1 <= context.deadline {
+            return going(target, clock + 1);
         }
-        return Turn {
-            done: false,
-            pc,
-            clock,
-            stop: Stop::Late,
-        };
+        return stopping(Stop::Late, pc, clock);
     }
-    if up {
-        return Turn {
-            done: false,
-            pc,
-            clock,
-            stop: Stop::Failed,
-        };
+    if context.up {
+        return stopping(Stop::Failed, pc, clock);
     }
-    if clock + 1 <= deadline {
-        return Turn {
-            done: true,
-            pc: pc + 1,
-            clock: clock + 1,
-            stop: Stop::Out,
-        };
+    if clock + 1 <= context.deadline {
+        return going(pc + 1, clock + 1);
     }
-    Turn {
-        done: false,
-        pc,
-        clock,
-        stop: Stop::Late,
-    }
+    stopping(Stop::Late, pc, clock)
 }
 
 // Op 9: register a gets word x, where that is inside memory and the check passes.
@@ -196,27 +221,24 @@ fn load(
     values: &mut [u32; 16],
     words: &[u32],
     marks: &[u8],
+    context: Context,
     a: usize,
     x: u32,
-    p: u8,
-    lb: u8,
     la: u8,
-    size: u32,
+    lb: u8,
     pc: u32,
     clock: u32,
-    deadline: u32,
 ) -> Turn
-    requires { ⌜ (a < 16) × (size ≤ length (now words)) × (size ≤ length (now marks)) × (pc < 2048) × (clock ≤ 16777216) ⌝ }
-    ensures { λ r. ⌜ Loaded (now (values .entry)) (now (words .entry)) (now (marks .entry)) a x p lb la size pc clock deadline r (now (values .exit)) ⌝ }
+    requires { ⌜ (a < 16) × (context .size ≤ length (now words)) × (context .size ≤ length (now marks)) × (pc < 2048) × (clock ≤ 16777216) ⌝ }
+    ensures { λ r. ⌜ Loaded (now (values .entry)) (now (words .entry)) (now (marks .entry)) a x (context .p) lb la (context .size) pc clock (context .deadline) r (now (values .exit)) ⌝ }
 {
-    if x < size {
+    if x < context.size {
         let at = index(x);
-        let ok = three_flow(p, lb, marks[at], la);
+        let ok = three_flow(context.p, lb, marks[at], la);
         let v = words[at];
-        assign(values, a, ok, v, 3, pc, clock, deadline)
-    } else {
-        assign(values, a, false, 0, 3, pc, clock, deadline)
+        return assign(values, context, a, ok, v, 3, pc, clock);
     }
+    assign(values, context, a, false, 0, 3, pc, clock)
 }
 
 // Word `to` gets v, where that is inside memory and the check passes.
@@ -236,45 +258,28 @@ fn put_word(words: &mut [u32], marks: &[u8], to: u32, v: u32, p: u8, lb: u8, la:
 fn store(
     words: &mut [u32],
     marks: &[u8],
+    context: Context,
     x: u32,
     v: u32,
-    p: u8,
-    lb: u8,
     la: u8,
-    size: u32,
+    lb: u8,
     pc: u32,
     clock: u32,
-    deadline: u32,
 ) -> Turn
-    requires { ⌜ (size ≤ length (now words)) × (size ≤ length (now marks)) × (pc < 2048) × (clock ≤ 16777216) ⌝ }
-    ensures { λ r. ⌜ Stored (now (words .entry)) (now (marks .entry)) x v p lb la size pc clock deadline r (now (words .exit)) ⌝ }
+    requires { ⌜ (context .size ≤ length (now words)) × (context .size ≤ length (now marks)) × (pc < 2048) × (clock ≤ 16777216) ⌝ }
+    ensures { λ r. ⌜ Stored (now (words .entry)) (now (marks .entry)) x v (context .p) lb la (context .size) pc clock (context .deadline) r (now (words .exit)) ⌝ }
 {
-    if clock + 3 <= deadline {
-        put_word(words, marks, x, v, p, lb, la, size);
-        Turn {
-            done: true,
-            pc: pc + 1,
-            clock: clock + 3,
-            stop: Stop::Out,
-        }
-    } else {
-        Turn {
-            done: false,
-            pc,
-            clock,
-            stop: Stop::Late,
-        }
+    if clock + 3 <= context.deadline {
+        put_word(words, marks, x, v, context.p, lb, la, context.size);
+        return going(pc + 1, clock + 3);
     }
+    stopping(Stop::Late, pc, clock)
 }
 
 // The common op of the fetched word w.
 fn common(
     w: u32,
-    size: u32,
-    p: u8,
-    t: u8,
-    up: bool,
-    deadline: u32,
+    context: Context,
     pc: u32,
     clock: u32,
     values: &mut [u32; 16],
@@ -282,129 +287,41 @@ fn common(
     words: &mut [u32],
     marks: &[u8],
 ) -> Turn
-    requires { ⌜ (size ≤ length (now words)) × (size ≤ length (now marks)) × (pc < size) × (pc < 2048) × (clock ≤ 16777216) ⌝ }
-    ensures { λ r. ⌜ Common size p t up deadline pc clock (now (values .entry)) (now (labels .entry)) (now (words .entry)) (now (marks .entry)) w r (now (values .exit)) (now (words .exit)) ⌝ }
+    requires { ⌜ (context .size ≤ length (now words)) × (context .size ≤ length (now marks)) × (pc < context .size) × (pc < 2048) × (clock ≤ 16777216) ⌝ }
+    ensures { λ r. ⌜ Common (context .size) (context .p) (context .t) (context .up) (context .deadline) pc clock (now (values .entry)) (now (labels .entry)) (now (words .entry)) (now (marks .entry)) w r (now (values .exit)) (now (words .exit)) ⌝ }
 {
     let a = a_of(w);
     let b = b_of(w);
     let c = c_of(w);
+    let n = n_of(w);
     let x = values[b];
     let y = values[c];
     let z = values[a];
     let la = labels[a];
     let lb = labels[b];
     let lc = labels[c];
+    let p = context.p;
+    let t = context.t;
     match op_of(w) {
-        1 => assign(values, a, one_flows(p, la), n_of(w), 1, pc, clock, deadline),
-        2 => assign(
-            values,
-            a,
-            three_flow(p, lb, lc, la),
-            std::num::wrapping_add_u32(x, y),
-            1,
-            pc,
-            clock,
-            deadline,
-        ),
-        3 => assign(
-            values,
-            a,
-            three_flow(p, lb, lc, la),
-            difference(x, y),
-            1,
-            pc,
-            clock,
-            deadline,
-        ),
-        4 => assign(
-            values,
-            a,
-            three_flow(p, lb, lc, la),
-            x & y,
-            1,
-            pc,
-            clock,
-            deadline,
-        ),
-        5 => assign(
-            values,
-            a,
-            three_flow(p, lb, lc, la),
-            x | y,
-            1,
-            pc,
-            clock,
-            deadline,
-        ),
-        6 => assign(
-            values,
-            a,
-            three_flow(p, lb, lc, la),
-            x ^ y,
-            1,
-            pc,
-            clock,
-            deadline,
-        ),
-        7 => assign(
-            values,
-            a,
-            three_flow(p, lb, lc, la),
-            less(x, y),
-            1,
-            pc,
-            clock,
-            deadline,
-        ),
-        8 => assign(
-            values,
-            a,
-            three_flow(p, lb, lc, la),
-            product(x, y),
-            multiply_ticks(one_flows(lb, t) & one_flows(lc, t), y),
-            pc,
-            clock,
-            deadline,
-        ),
-        9 => load(
-            values,
-            words,
-            marks,
-            a,
-            x,
-            p,
-            lb,
-            la,
-            size,
-            pc,
-            clock,
-            deadline,
-        ),
-        10 => store(words, marks, x, z, p, lb, la, size, pc, clock, deadline),
-        11 => go(
-            two_flow(la, lb, p),
-            picked(z == x, n_of(w), pc),
-            up,
-            pc,
-            clock,
-            deadline,
-        ),
-        12 => go(
-            two_flow(la, lb, p),
-            picked(z < x, n_of(w), pc),
-            up,
-            pc,
-            clock,
-            deadline,
-        ),
-        13 => go(one_flows(lb, p), x, up, pc, clock, deadline),
-        14 => assign(values, a, two_flow(p, t, la), clock, 1, pc, clock, deadline),
-        _ => Turn {
-            done: false,
-            pc,
-            clock,
-            stop: Stop::Rest(w),
-        },
+        1 => assign(values, context, a, one_flows(p, la), n, 1, pc, clock),
+        2 => combine(values, context, a, la, lb, lc, plus(x, y), 1, pc, clock),
+        3 => combine(values, context, a, la, lb, lc, minus(x, y), 1, pc, clock),
+        4 => combine(values, context, a, la, lb, lc, x & y, 1, pc, clock),
+        5 => combine(values, context, a, la, lb, lc, x | y, 1, pc, clock),
+        6 => combine(values, context, a, la, lb, lc, x ^ y, 1, pc, clock),
+        7 => combine(values, context, a, la, lb, lc, less(x, y), 1, pc, clock),
+        8 => {
+            let v = product(x, y);
+            let ticks = multiply_ticks(one_flows(lb, t) & one_flows(lc, t), y);
+            combine(values, context, a, la, lb, lc, v, ticks, pc, clock)
+        }
+        9 => load(values, words, marks, context, a, x, la, lb, pc, clock),
+        10 => store(words, marks, context, x, z, la, lb, pc, clock),
+        11 => go(context, two_flow(la, lb, p), pick(z == x, n, pc), pc, clock),
+        12 => go(context, two_flow(la, lb, p), pick(z < x, n, pc), pc, clock),
+        13 => go(context, one_flows(lb, p), x, pc, clock),
+        14 => assign(values, context, a, two_flow(p, t, la), clock, 1, pc, clock),
+        _ => stopping(Stop::Rest(w), pc, clock),
     }
 }
 
@@ -416,13 +333,21 @@ pub struct Pause {
     pub stop: Stop,
 }
 
+// A pause of its parts.
+fn pausing(stop: Stop, pc: u32, clock: u32, left: u32) -> Pause
+    ensures { λ r. ⌜ r ≡ record { pc = pc; clock = clock; left = left; stop = stop } ⌝ }
+{
+    Pause {
+        pc,
+        clock,
+        left,
+        stop,
+    }
+}
+
 // The hot loop: so many steps at the most.
 pub(crate) fn sprint(
-    size: u32,
-    p: u8,
-    t: u8,
-    up: bool,
-    deadline: u32,
+    context: Context,
     pc0: u32,
     clock0: u32,
     left0: u32,
@@ -431,64 +356,31 @@ pub(crate) fn sprint(
     words: &mut [u32],
     marks: &[u8],
 ) -> Pause
-    requires { ⌜ (size ≤ length (now words)) × (size ≤ length (now marks)) × (size ≤ 2048) × (clock0 ≤ 16777216) × (deadline ≤ 16777216) ⌝ }
-    ensures { λ r. ⌜ Sprinted size p t up deadline pc0 clock0 left0 (now (values .entry)) (now (labels .entry)) (now (words .entry)) (now (marks .entry)) r (now (values .exit)) (now (words .exit)) ⌝ }
+    requires { ⌜ (context .size ≤ length (now words)) × (context .size ≤ length (now marks)) × (context .size ≤ 2048) × (clock0 ≤ 16777216) × (context .deadline ≤ 16777216) ⌝ }
+    ensures { λ r. ⌜ Sprinted (context .size) (context .p) (context .t) (context .up) (context .deadline) pc0 clock0 left0 (now (values .entry)) (now (labels .entry)) (now (words .entry)) (now (marks .entry)) r (now (values .exit)) (now (words .exit)) ⌝ }
 {
     let mut pc = pc0;
     let mut clock = clock0;
     let mut left = left0;
     while 0 < left {
-        if size <= pc {
-            return Pause {
-                pc,
-                clock,
-                left,
-                stop: Stop::Outside,
-            };
+        if context.size <= pc {
+            return pausing(Stop::Outside, pc, clock, left);
         }
         let at = index(pc);
-        if one_flows(marks[at], p) {
+        if one_flows(marks[at], context.p) {
             let w = words[at];
-            let turn = common(
-                w,
-                size,
-                p,
-                t,
-                up,
-                deadline,
-                pc,
-                clock,
-                values,
-                labels,
-                words,
-                marks,
-            );
+            let turn = common(w, context, pc, clock, values, labels, words, marks);
             if turn.done {
                 pc = turn.pc;
                 clock = turn.clock;
                 left -= 1;
             } else {
                 let stop = turn.stop;
-                return Pause {
-                    pc,
-                    clock,
-                    left,
-                    stop,
-                };
+                return pausing(stop, pc, clock, left);
             }
         } else {
-            return Pause {
-                pc,
-                clock,
-                left,
-                stop: Stop::Unreadable,
-            };
+            return pausing(Stop::Unreadable, pc, clock, left);
         }
     }
-    Pause {
-        pc,
-        clock,
-        left,
-        stop: Stop::Out,
-    }
+    pausing(Stop::Out, pc, clock, left)
 }

@@ -1,6 +1,8 @@
 // So many steps: the hot loop, then one step of what it stopped at, in turn.
 use crate::apply::control_after;
+use crate::apply::control_of;
 use crate::apply::write_back;
+use crate::common::Context;
 use crate::common::sprint;
 use crate::rest::decide;
 use crate::rest::end_tick;
@@ -9,6 +11,7 @@ use crate::rest::newest;
 use model::Call;
 use model::Control;
 use model::Fixed;
+use model::Pair;
 ghost use Prim.Native.Nat.{_≤_};
 ghost use mathlib.Core.Path.{_≡_};
 ghost use Rattle.model.specs.Record.{isUpcall, endTickOf};
@@ -26,6 +29,19 @@ fn deadline_of(limit: u32, call: Call) -> u32
         }
     }
     limit
+}
+
+// What the hot loop is told.
+fn context_of(size: u32, limit: u32, pair: Pair, call: Call) -> Context
+    ensures { λ r. ⌜ r ≡ record { size = size; p = pair .pc; t = pair .timing; up = isUpcall call; deadline = deadlineOf (isUpcall call) (endTickOf call) limit } ⌝ }
+{
+    Context {
+        size,
+        p: pair.pc,
+        t: pair.timing,
+        up: is_upcall(call),
+        deadline: deadline_of(limit, call),
+    }
 }
 
 // So many steps, from the control `start` and with the registers and memory as they are lent.
@@ -52,54 +68,30 @@ pub(crate) fn drive(
         let pair = control.pair;
         let first = control.first;
         let second = control.second;
-        let limit = fixed.limit;
         let call = newest(first, second);
-        let deadline = deadline_of(limit, call);
-        let pause = sprint(
-            fixed.size,
-            pair.pc,
-            pair.timing,
-            is_upcall(call),
-            deadline,
-            control.pc,
-            control.clock,
-            left,
-            values,
-            labels,
-            words,
-            marks,
-        );
+        let context = context_of(fixed.size, fixed.limit, pair, call);
+        let at = control.pc;
+        let from = control.clock;
+        let pause = sprint(context, at, from, left, values, labels, words, marks);
         let pc = pause.pc;
         let clock = pause.clock;
         if pause.left == 0 {
-            return Control {
-                pc,
-                pair,
-                clock,
-                first,
-                second,
-                end,
-                why,
-            };
+            return control_of(pc, pair, clock, first, second, end, why);
         }
         let stop = pause.stop;
-        let gates = fixed.gates;
-        let verdict = decide(
-            stop,
-            pc,
-            fixed.errorpc,
-            limit,
-            pair.pc,
-            pair.timing,
-            clock,
-            call,
-            fixed.count,
-            gates,
-            values,
-            labels,
-        );
+        let verdict = decide(stop, fixed, pair, pc, clock, call, values, labels);
         write_back(verdict, pair.timing, values, labels);
-        control = control_after(pair, first, second, end, why, pc, clock, limit, verdict);
+        control = control_after(
+            pair,
+            first,
+            second,
+            end,
+            why,
+            pc,
+            clock,
+            fixed.limit,
+            verdict,
+        );
         left = pause.left - 1;
     }
     control

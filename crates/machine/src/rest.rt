@@ -10,6 +10,7 @@ use crate::word::op_of;
 use labels::Label;
 use model::Call;
 use model::CallGate;
+use model::Fixed;
 use model::Pair;
 ghost use Prim.Native.Nat.{_+_, _^_, _≤_, _<_};
 ghost use mathlib.Core.Path.{_≡_};
@@ -153,6 +154,22 @@ fn set_label(ok: bool, a: usize, x: u32, lb: u8, p: u8) -> Act
     Act::Pass
 }
 
+// Op 15.
+fn raise(a: usize, x: u32, la: u8, lb: u8, p: u8) -> Act
+    requires { ⌜ a < 16 ⌝ }
+    ensures { λ r. ⌜ Acts ((isLabel x && mayRaise p la x) && flows lb p) (write (label (register a) x)) r ⌝ }
+{
+    set_label(may_raise(x, la, p), a, x, lb, p)
+}
+
+// Op 16.
+fn relabel(a: usize, x: u32, la: u8, lb: u8, p: u8) -> Act
+    requires { ⌜ a < 16 ⌝ }
+    ensures { λ r. ⌜ Acts ((isLabel x && mayRelabel p la x) && flows lb p) (write (label (register a) x)) r ⌝ }
+{
+    set_label(may_relabel(x, la, p), a, x, lb, p)
+}
+
 // ---- ops 17 and 18
 
 // Whether x and y are labels that form a valid pair, and may be read.
@@ -181,6 +198,13 @@ fn set_pair(ok: bool, x: u32, y: u32, p: u8, t: u8) -> Act
         }
     }
     Act::Pass
+}
+
+// Op 17.
+fn enter(x: u32, y: u32, lb: u8, lc: u8, p: u8, t: u8) -> Act
+    ensures { λ r. ⌜ Acts (allowed x y lb lc p && flows p x && flows t y) (enter (record { pc = x; timing = y })) r ⌝ }
+{
+    set_pair(new_pair_allowed(x, y, lb, lc, p), x, y, p, t)
 }
 
 // Whether the labels of an upcall's length and return pc may be read, and the join of the pair flows to the new pc label.
@@ -334,46 +358,15 @@ fn rest(
     let lb = labels[b];
     let lc = labels[c];
     match op_of(w) {
-        15 => in_time(
-            up,
-            end,
-            clock,
-            2,
-            set_label(may_raise(x, la, p), a, x, lb, p),
-        ),
-        16 => in_time(
-            up,
-            end,
-            clock,
-            2,
-            set_label(may_relabel(x, la, p), a, x, lb, p),
-        ),
-        17 => in_time(
-            up,
-            end,
-            clock,
-            2,
-            set_pair(new_pair_allowed(x, y, lb, lc, p), x, y, p, t),
-        ),
-        18 => in_time(
-            up,
-            end,
-            clock,
-            2,
-            open_upcall(
-                up,
-                new_pair_allowed(x, y, lb, lc, p),
-                x,
-                y,
-                p,
-                t,
-                la,
-                labels[d],
-                values[a],
-                values[d],
-                clock,
-            ),
-        ),
+        15 => in_time(up, end, clock, 2, raise(a, x, la, lb, p)),
+        16 => in_time(up, end, clock, 2, relabel(a, x, la, lb, p)),
+        17 => in_time(up, end, clock, 2, enter(x, y, lb, lc, p, t)),
+        18 => {
+            let ok = new_pair_allowed(x, y, lb, lc, p);
+            let ld = labels[d];
+            let act = open_upcall(up, ok, x, y, p, t, la, ld, values[a], values[d], clock);
+            in_time(up, end, clock, 2, act)
+        }
         19 => end_upcall(up),
         20 => in_time(up, end, clock, 4, open_gate(x, lb, p, call, count, gates)),
         21 => in_time(up, end, clock, 4, close_gate(p, t, call)),
@@ -470,37 +463,30 @@ fn in_limit(d: Verdict, clock: u32, limit: u32, end: u64) -> Verdict
 // What is to be done for a reason to stop.
 pub(crate) fn decide(
     stop: Stop,
+    fixed: Fixed,
+    pair: Pair,
     pc: u32,
-    errorpc: u32,
-    limit: u32,
-    p: u8,
-    t: u8,
     clock: u32,
     call: Call,
-    count: u32,
-    gates: [CallGate; 8],
     values: &[u32; 16],
     labels: &[u8; 16],
 ) -> Verdict
-    requires { ⌜ Ready stop pc × (clock ≤ limit) × (limit ≤ 16777216) × (count ≤ 8) ⌝ }
-    ensures { λ r. ⌜ Decided stop pc errorpc limit p t clock call count gates (now (values .entry)) (now (labels .entry)) r ⌝ }
+    requires { ⌜ Ready stop pc × (clock ≤ fixed .limit) × (fixed .limit ≤ 16777216) × (fixed .count ≤ 8) ⌝ }
+    ensures { λ r. ⌜ Decided stop pc (fixed .errorpc) (fixed .limit) (pair .pc) (pair .timing) clock call (fixed .count) (fixed .gates) (now (values .entry)) (now (labels .entry)) r ⌝ }
 {
-    in_limit(
-        plan(
-            stop,
-            pc,
-            errorpc,
-            p,
-            t,
-            clock,
-            call,
-            count,
-            gates,
-            values,
-            labels,
-        ),
+    let gates = fixed.gates;
+    let verdict = plan(
+        stop,
+        pc,
+        fixed.errorpc,
+        pair.pc,
+        pair.timing,
         clock,
-        limit,
-        end_tick(call),
-    )
+        call,
+        fixed.count,
+        gates,
+        values,
+        labels,
+    );
+    in_limit(verdict, clock, fixed.limit, end_tick(call))
 }
