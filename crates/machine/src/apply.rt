@@ -34,7 +34,7 @@ fn write_label(act: Act, labels: &mut [u8; 16])
         }
         Act::Enter(_) => {}
         Act::OpenUpcall(_, _, _) => {}
-        Act::OpenGate(_) => {}
+        Act::OpenGate(_, _) => {}
         Act::CloseGate => {}
         Act::Halt => {}
     }
@@ -151,9 +151,9 @@ fn changed(
             let call = Call::Upcall(k, pair, e);
             opened(first, call, pc + 1, q, clock, end, why)
         }
-        Act::OpenGate(g) => {
+        Act::OpenGate(k, q) => {
             let call = Call::Gate(pc + 1, pair);
-            opened(first, call, g.entry, g.pair, clock, end, why)
+            opened(first, call, k, q, clock, end, why)
         }
         Act::CloseGate => restored(first, second, end, why, clock),
         Act::Halt => control_of(pc, pair, clock, first, second, 1, 0),

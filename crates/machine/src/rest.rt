@@ -35,7 +35,7 @@ pub enum Act {
     Enter(Pair),
     // an upcall with its return pc, its pair and its end tick
     OpenUpcall(u32, Pair, u64),
-    OpenGate(CallGate),
+    OpenGate(u32, Pair),
     CloseGate,
     Halt,
 }
@@ -155,19 +155,23 @@ fn set_label(ok: bool, a: usize, x: u32, lb: u8, p: u8) -> Act
 }
 
 // Op 15.
-fn raise(a: usize, x: u32, la: u8, lb: u8, p: u8) -> Act
-    requires { ⌜ a < 16 ⌝ }
-    ensures { λ r. ⌜ Acts ((isLabel x && mayRaise p la x) && flows lb p) (write (label (register a) x)) r ⌝ }
+fn raise(w: u32, p: u8, values: &[u32; 16], labels: &[u8; 16]) -> Act
+    ensures { λ r. ⌜ Acts ((isLabel (getD (now values) (bField w) 0) && mayRaise p (getD (now labels) (aField w) 0) (getD (now values) (bField w) 0)) && flows (getD (now labels) (bField w) 0) p) (write (label (register (aField w)) (getD (now values) (bField w) 0))) r ⌝ }
 {
-    set_label(may_raise(x, la, p), a, x, lb, p)
+    let a = a_of(w);
+    let b = b_of(w);
+    let x = values[b];
+    set_label(may_raise(x, labels[a], p), a, x, labels[b], p)
 }
 
 // Op 16.
-fn relabel(a: usize, x: u32, la: u8, lb: u8, p: u8) -> Act
-    requires { ⌜ a < 16 ⌝ }
-    ensures { λ r. ⌜ Acts ((isLabel x && mayRelabel p la x) && flows lb p) (write (label (register a) x)) r ⌝ }
+fn relabel(w: u32, p: u8, values: &[u32; 16], labels: &[u8; 16]) -> Act
+    ensures { λ r. ⌜ Acts ((isLabel (getD (now values) (bField w) 0) && mayRelabel p (getD (now labels) (aField w) 0) (getD (now values) (bField w) 0)) && flows (getD (now labels) (bField w) 0) p) (write (label (register (aField w)) (getD (now values) (bField w) 0))) r ⌝ }
 {
-    set_label(may_relabel(x, la, p), a, x, lb, p)
+    let a = a_of(w);
+    let b = b_of(w);
+    let x = values[b];
+    set_label(may_relabel(x, labels[a], p), a, x, labels[b], p)
 }
 
 // ---- ops 17 and 18
@@ -201,10 +205,14 @@ fn set_pair(ok: bool, x: u32, y: u32, p: u8, t: u8) -> Act
 }
 
 // Op 17.
-fn enter(x: u32, y: u32, lb: u8, lc: u8, p: u8, t: u8) -> Act
-    ensures { λ r. ⌜ Acts (allowed x y lb lc p && flows p x && flows t y) (enter (record { pc = x; timing = y })) r ⌝ }
+fn enter(w: u32, p: u8, t: u8, values: &[u32; 16], labels: &[u8; 16]) -> Act
+    ensures { λ r. ⌜ Acts (allowed (getD (now values) (bField w) 0) (getD (now values) (cField w) 0) (getD (now labels) (bField w) 0) (getD (now labels) (cField w) 0) p && flows p (getD (now values) (bField w) 0) && flows t (getD (now values) (cField w) 0)) (enter (record { pc = getD (now values) (bField w) 0; timing = getD (now values) (cField w) 0 })) r ⌝ }
 {
-    set_pair(new_pair_allowed(x, y, lb, lc, p), x, y, p, t)
+    let b = b_of(w);
+    let c = c_of(w);
+    let x = values[b];
+    let y = values[c];
+    set_pair(new_pair_allowed(x, y, labels[b], labels[c], p), x, y, p, t)
 }
 
 // Whether the labels of an upcall's length and return pc may be read, and the join of the pair flows to the new pc label.
@@ -246,6 +254,31 @@ fn open_upcall(
     Act::Pass
 }
 
+// Op 18.
+fn upcall(
+    w: u32,
+    up: bool,
+    p: u8,
+    t: u8,
+    clock: u32,
+    values: &[u32; 16],
+    labels: &[u8; 16],
+) -> Act
+    requires { ⌜ clock ≤ 16777216 ⌝ }
+    ensures { λ r. ⌜ Acts (not up && allowed (getD (now values) (bField w) 0) (getD (now values) (cField w) 0) (getD (now labels) (bField w) 0) (getD (now labels) (cField w) 0) p && flows (join p t) (getD (now values) (bField w) 0) && flows (getD (now labels) (aField w) 0) p && flows (getD (now labels) (dField w) 0) p) (openUpcall (getD (now values) (dField w) 0) (record { pc = getD (now values) (bField w) 0; timing = getD (now values) (cField w) 0 }) (clock + 2 + getD (now values) (aField w) 0)) r ⌝ }
+{
+    let a = a_of(w);
+    let b = b_of(w);
+    let c = c_of(w);
+    let d = d_of(w);
+    let x = values[b];
+    let y = values[c];
+    let ok = new_pair_allowed(x, y, labels[b], labels[c], p);
+    let la = labels[a];
+    let ld = labels[d];
+    open_upcall(up, ok, x, y, p, t, la, ld, values[a], values[d], clock)
+}
+
 // ---- ops 20 and 21
 
 // Whether a gate with the pair q, u may be called.
@@ -269,13 +302,31 @@ fn open_gate(x: u32, lb: u8, p: u8, call: Call, count: u32, gates: [CallGate; 8]
             let gate = gates[i];
             let pair = gate.pair;
             if may_enter(pair.pc, pair.timing, lb, p) {
-                return Act::OpenGate(gate);
+                return Act::OpenGate(gate.entry, pair);
             }
         }
     }
     Act::Pass
 }
 
+// Op 20.
+fn gate(
+    w: u32,
+    p: u8,
+    call: Call,
+    count: u32,
+    gates: [CallGate; 8],
+    values: &[u32; 16],
+    labels: &[u8; 16],
+) -> Act
+    requires { ⌜ count ≤ 8 ⌝ }
+    ensures { λ r. ⌜ GateActs (getD (now values) (bField w) 0) (getD (now labels) (bField w) 0) p call count gates r ⌝ }
+{
+    let b = b_of(w);
+    open_gate(values[b], labels[b], p, call, count, gates)
+}
+
+// Op 21.
 fn close_gate(p: u8, t: u8, call: Call) -> Act
     ensures { λ r. ⌜ Acts (isGate call && flows (join p t) (meet (pairOf call .pc) (pairOf call .timing))) closeGate r ⌝ }
 {
@@ -348,27 +399,19 @@ fn rest(
 {
     let up = is_upcall(call);
     let end = end_tick(call);
-    let a = a_of(w);
-    let b = b_of(w);
-    let c = c_of(w);
-    let d = d_of(w);
-    let x = values[b];
-    let y = values[c];
-    let la = labels[a];
-    let lb = labels[b];
-    let lc = labels[c];
     match op_of(w) {
-        15 => in_time(up, end, clock, 2, raise(a, x, la, lb, p)),
-        16 => in_time(up, end, clock, 2, relabel(a, x, la, lb, p)),
-        17 => in_time(up, end, clock, 2, enter(x, y, lb, lc, p, t)),
+        15 => in_time(up, end, clock, 2, raise(w, p, values, labels)),
+        16 => in_time(up, end, clock, 2, relabel(w, p, values, labels)),
+        17 => in_time(up, end, clock, 2, enter(w, p, t, values, labels)),
         18 => {
-            let ok = new_pair_allowed(x, y, lb, lc, p);
-            let ld = labels[d];
-            let act = open_upcall(up, ok, x, y, p, t, la, ld, values[a], values[d], clock);
+            let act = upcall(w, up, p, t, clock, values, labels);
             in_time(up, end, clock, 2, act)
         }
         19 => end_upcall(up),
-        20 => in_time(up, end, clock, 4, open_gate(x, lb, p, call, count, gates)),
+        20 => {
+            let act = gate(w, p, call, count, gates, values, labels);
+            in_time(up, end, clock, 4, act)
+        }
         21 => in_time(up, end, clock, 4, close_gate(p, t, call)),
         22 => halt(up),
         _ => fault(up, pc, errorpc, 3),
