@@ -14,10 +14,10 @@ use Rattle.model.specs.declared.Call.{Call}
 use Rattle.model.specs.Record.{State, register, labelAt, newest, endTickOf}
 use Rattle.model.specs.Ops.{nothing, value, Change, write, goto, enter, openUpcall, openGate, closeGate, stop}
 use Rattle.model.specs.Step.{written, causeAllowed, causeWrite, writeOf, restored, changed, controlAfter, endTick}
-use Rattle.machine.specs.declared.rest.Act.{Act}
-use Rattle.machine.specs.declared.rest.Act.the-variants.{Pass, SetLabel, Enter, OpenUpcall, OpenGate}
-use Rattle.machine.specs.declared.rest.Verdict.{Verdict}
-use Rattle.machine.specs.declared.rest.Verdict.the-variants.{Close, Carry}
+use Rattle.machine.specs.declared.steps.rest.Act.{Act}
+use Rattle.machine.specs.declared.steps.rest.Act.the-variants.{Pass, SetLabel, Enter, OpenUpcall, OpenGate}
+use Rattle.machine.specs.declared.steps.rest.Verdict.{Verdict}
+use Rattle.machine.specs.declared.steps.rest.Verdict.the-variants.{Close, Carry}
 use Rattle.machine.specs.Rest.{newestOf, changeOf, decisionOf, Writes, Held, Admits}
 use Rattle.machine.specs.Apply.{banked, Labelled, Wrote, controlOf, restoredTo, Changed, Controlled}
 
@@ -36,7 +36,7 @@ module _ {act : Act} {pc : ℕ} where
   pub asked-upcall : {k e : ℕ} {p : Pair} → act ≡ OpenUpcall k p e → Writes act pc → pc < 2048
   asked-upcall q h = rw q at h
 
-  pub asked-gate : {g : CallGate} → act ≡ OpenGate g → Writes act pc → pc < 2048
+  pub asked-gate : {k : ℕ} {p : Pair} → act ≡ OpenGate k p → Writes act pc → pc < 2048
   asked-gate q h = rw q at h
 
 module _ {d : Verdict} where

@@ -13,16 +13,17 @@ use Rattle.model.specs.declared.Control.{Control}
 use Rattle.model.specs.declared.Call.{Call}
 use Rattle.model.specs.Record.{State, isUpcall, endTickOf, newest, inUpcall}
 use Rattle.model.specs.Step.{Decision, endTick, running, decide, written, writeOf, controlAfter, apply, withControl, step, steps}
-use Rattle.machine.specs.declared.common.Stop.{Stop}
-use Rattle.machine.specs.declared.common.Stop.the-variants.{Out, Late, Outside, Unreadable, Failed, Rest}
-use Rattle.machine.specs.declared.common.Pause.{Pause}
-use Rattle.machine.specs.declared.rest.Verdict.{Verdict}
-use Rattle.machine.specs.declared.rest.Verdict.the-variants.{Spend, Stall, Close, Carry}
+use Rattle.machine.specs.declared.steps.common.Stop.{Stop}
+use Rattle.machine.specs.declared.steps.common.Stop.the-variants.{Out, Late, Outside, Unreadable, Failed, Rest}
+use Rattle.machine.specs.declared.steps.common.Pause.{Pause}
+use Rattle.machine.specs.declared.steps.common.Context.{Context}
+use Rattle.machine.specs.declared.steps.rest.Verdict.{Verdict}
+use Rattle.machine.specs.declared.steps.rest.Verdict.the-variants.{Spend, Stall, Close, Carry}
 use Rattle.machine.specs.Common.{view, deadlineOf, Timed, Stopped}
 use Rattle.machine.specs.Sprint.{Paused, Sprinted}
 use Rattle.machine.specs.Rest.{newestOf, Ready, Held, Admits, Decided}
 use Rattle.machine.specs.Apply.{Wrote, controlOf, Controlled}
-use Rattle.machine.specs.Drive.{stateFrom, Fit, Driven}
+use Rattle.machine.specs.Drive.{stateFrom, contextOf, Fit, Driven}
 use Rattle.machine.proofs.Loop.{steps-one}
 
 -- ---- an ended state
@@ -96,24 +97,26 @@ module _ {fixed : Fixed} {start : Control} {count : ℕ} {values₀ labels₀ wo
       none-left zero q = steps-none (stateFrom fixed control values labels words marks)
       none-left (suc n) q = absurd (omega arith)
 
-  module _ (runs : control .end ≤ 0) {call : Call} (c : call ≡ newestOf (control .first) (control .second)) {up : Bool} (u : up ≡ isUpcall call) {deadline : ℕ} (d : deadline ≡ deadlineOf (isUpcall call) (endTickOf call) (fixed .limit)) where
-    timed : Timed (stateFrom fixed control values labels words marks) up deadline
+  module _ (runs : control .end ≤ 0) {call : Call} (c : call ≡ newestOf (control .first) (control .second)) {context : Context} (u : context ≡ contextOf (fixed .size) (fixed .limit) (control .pair) call) where
+    timed : Timed (stateFrom fixed control values labels words marks) (context .up) (context .deadline)
     unfolding inUpcall newest endTick
-    timed = record { running = omega arith; upcall = rw (u, c); due = rw (d, u, c) }
+    timed = rw u (record { running = omega arith; upcall = rw c; due = rw c })
 
-    module _ {pause : Pause} {values′ words′ : List ℕ} (p : Sprinted (fixed .size) (control .pair .pc) (control .pair .timing) up deadline (control .pc) (control .clock) left values labels words marks pause values′ words′) where
+    module _ {pause : Pause} {values′ words′ : List ℕ} (q : Sprinted (context .size) (context .p) (context .t) (context .up) (context .deadline) (control .pc) (control .clock) left values labels words marks pause values′ words′) where
+      p : Sprinted (fixed .size) (control .pair .pc) (control .pair .timing) (context .up) (context .deadline) (control .pc) (control .clock) left values labels words marks pause values′ words′
+      p = rw u (rw u at q)
+
       -- No step is left after the hot loop.
-      pub went-paused : pause .left ≡ 0
-          → Driven fixed start count values₀ labels₀ words₀ marks
-          (controlOf (pause .pc) (control .pair) (pause .clock) (control .first) (control .second) (control .end) (control .why)) values′ labels words′
-      went-paused e =
-          record {
+      pub went-paused : {r : Control} → r ≡ controlOf (pause .pc) (control .pair) (pause .clock) (control .first) (control .second) (control .end) (control .why)
+          → pause .left ≡ 0 → Driven fixed start count values₀ labels₀ words₀ marks r values′ labels words′
+      went-paused f e =
+          rw f (record {
             is =
                 sym
                 (h .run ∙ p .run (stateFrom fixed control values labels words marks) timed
                 ∙ ap (λ (n : ℕ). steps n (view (stateFrom fixed control values labels words marks) (fixed .size) (control .pair .pc) (control .pair .timing) (pause .pc) (pause .clock) values′ labels words′ marks)) e
                 ∙ steps-none _);
-          }
+          })
 
       newest-there : newest (view (stateFrom fixed control values labels words marks) (fixed .size) (control .pair .pc) (control .pair .timing) (pause .pc) (pause .clock) values′ labels words′ marks .control) ≡ call
       unfolding newest

@@ -12,9 +12,10 @@ use Rattle.model.specs.Record.{State, valueAt, labelAt, newest, inUpcall}
 use Rattle.model.specs.Word.{opField, decode}
 use Rattle.model.specs.declared.Call.the-variants.{Empty, Upcall}
 use Rattle.model.specs.Step.{failed, fetch, known, endTick, step, steps}
-use Rattle.machine.specs.declared.common.Stop.{Stop}
-use Rattle.machine.specs.declared.common.Stop.the-variants.{Out, Late, Outside, Unreadable, Failed, Rest}
-use Rattle.machine.specs.declared.common.Turn.{Turn}
+use Rattle.machine.specs.declared.steps.common.Stop.{Stop}
+use Rattle.machine.specs.declared.steps.common.Stop.the-variants.{Out, Late, Outside, Unreadable, Failed, Rest}
+use Rattle.machine.specs.declared.steps.common.Turn.{Turn}
+use Rattle.machine.specs.declared.steps.common.Pause.{Pause}
 use Rattle.machine.specs.Common.{view, Timed, Stopped, Turned}
 use Rattle.machine.specs.Sprint.{Paused, Sprinted}
 
@@ -94,18 +95,17 @@ still s pc₀ clock₀ values₀ words₀ pc clock values words h = record { run
 
 module _ {size p t : ℕ} {up : Bool} {deadline : ℕ} {labels marks : List ℕ} {pc₀ clock₀ left₀ : ℕ} {values₀ words₀ : List ℕ} {pc clock left : ℕ} {values words : List ℕ} (r : Ran size p t up deadline labels marks pc₀ clock₀ left₀ values₀ words₀ pc clock left values words) where
   -- Where no step is left.
-  pub ran-out : left ≤ 0
-      → Sprinted size p t up deadline pc₀ clock₀ left₀ values₀ labels words₀ marks
-      (record { pc = pc; clock = clock; left = left; stop = Out }) values words
-  ran-out h = record { run = r .run; paused = λ s x. omega arith; bounded = r .bounded; fewer = r .fewer }
+  pub ran-out : {pause : Pause} → pause ≡ record { pc = pc; clock = clock; left = left; stop = Out } → left ≤ 0
+      → Sprinted size p t up deadline pc₀ clock₀ left₀ values₀ labels words₀ marks pause values words
+  ran-out q h = rw q (record { run = r .run; paused = λ s x. omega arith; bounded = r .bounded; fewer = r .fewer })
 
   module _ (more : 0 < left) where
     -- Where the loop itself stops.
-    pub stopped : (stop : Stop) → ((s : State) → Stopped stop (view s size p t pc clock values labels words marks))
-        → Sprinted size p t up deadline pc₀ clock₀ left₀ values₀ labels words₀ marks
-        (record { pc = pc; clock = clock; left = left; stop = stop }) values words
-    stopped stop h =
-        record { run = r .run; paused = λ s x. pauses stop left _ more (h s); bounded = r .bounded; fewer = r .fewer }
+    pub stopped : (stop : Stop) {pause : Pause} → pause ≡ record { pc = pc; clock = clock; left = left; stop = stop }
+        → ((s : State) → Stopped stop (view s size p t pc clock values labels words marks))
+        → Sprinted size p t up deadline pc₀ clock₀ left₀ values₀ labels words₀ marks pause values words
+    stopped stop q h =
+        rw q (record { run = r .run; paused = λ s x. pauses stop left _ more (h s); bounded = r .bounded; fewer = r .fewer })
 
     module _ {turn : Turn} {values′ words′ : List ℕ} (h : (s : State) → Timed (view s size p t pc clock values labels words marks) up deadline → Turned (view s size p t pc clock values labels words marks) deadline turn values′ words′) where
       -- After a turn that did a step.
@@ -125,11 +125,10 @@ module _ {size p t : ℕ} {up : Bool} {deadline : ℕ} {labels marks : List ℕ}
           }
 
       -- After one that did none.
-      pub stopped-turn : turn .done ≡ false
-          → Sprinted size p t up deadline pc₀ clock₀ left₀ values₀ labels words₀ marks
-          (record { pc = pc; clock = clock; left = left; stop = turn .stop }) values′ words′
-      stopped-turn e =
-          record {
+      pub stopped-turn : {pause : Pause} → pause ≡ record { pc = pc; clock = clock; left = left; stop = turn .stop } → turn .done ≡ false
+          → Sprinted size p t up deadline pc₀ clock₀ left₀ values₀ labels words₀ marks pause values′ words′
+      stopped-turn q e =
+          rw q (record {
             run =
                 λ s x.
                 r .run s x
@@ -145,4 +144,4 @@ module _ {size p t : ℕ} {up : Bool} {deadline : ℕ} {labels marks : List ℕ}
                 (h s (still s pc₀ clock₀ values₀ words₀ pc clock values words x) .stops e .0));
             bounded = r .bounded;
             fewer = r .fewer;
-          }
+          })

@@ -2,7 +2,7 @@
 -- step decides where the op would finish past the deadline.
 -- Assumes nothing.
 use Prim.Native.Nat.{ℕ, zero, suc, _+_, _≤_, _<_}
-use mathlib.Core.Path.{_≡_, refl, sym, ap, _∙_}
+use mathlib.Core.Path.{_≡_, refl, sym, ap, _∙_, subst}
 use mathlib.Core.Bool.{Bool, true, false, not, _&&_, _||_, cond, true≢false, false≢true}
 use mathlib.Core.List.{List}
 use mathlib.Core.Logic.{_⊎_, inl, inr}
@@ -16,9 +16,9 @@ use Rattle.model.specs.Record.{State, register, word, inUpcall}
 use Rattle.model.specs.Word.{Op, opField, decode}
 use Rattle.model.specs.Ops.{Write, nothing, value, Change, write, goto, does, row, strictRow, table}
 use Rattle.model.specs.Step.{spend, close, carry, fetch, fetched, known, endTick, finish, attempt, inTime, plan, beyondLimit, inLimit, running, decide, written, writeOf, changed, controlAfter, apply, step}
-use Rattle.machine.specs.declared.common.Stop.{Stop}
-use Rattle.machine.specs.declared.common.Stop.the-variants.{Late, Failed}
-use Rattle.machine.specs.declared.common.Turn.{Turn}
+use Rattle.machine.specs.declared.steps.common.Stop.{Stop}
+use Rattle.machine.specs.declared.steps.common.Stop.the-variants.{Late, Failed}
+use Rattle.machine.specs.declared.steps.common.Turn.{Turn}
 use Rattle.machine.specs.Common.{going, stopping, timed, gone, Assigned, Loaded, Stored, Gone, moving, deadlineOf, Timed, lateOf, Stopped, Turned}
 
 -- ---- truth values
@@ -271,7 +271,8 @@ no-common (suc (suc (suc (suc (suc (suc (suc (suc (suc (suc (suc (suc (suc (suc 
 no-common (suc (suc (suc (suc (suc (suc (suc (suc (suc (suc (suc (suc (suc (suc (suc n))))))))))))))) a b c d e f g h i j k l m o = inr (omega arith)
 
 -- A turn that leaves the state.
-pub stays : (s : State) (deadline : ℕ) (stop : Stop) → Stopped stop s
-    → Turned s deadline (stopping stop (s .control .pc) (s .control .clock)) (s .registers .values) (s .memory .values)
-stays s deadline stop e =
-    record { goes = λ x. absurd (false≢true x); stops = λ x. (e, refl, refl); clock = λ m x y. x }
+pub stays : (s : State) (deadline : ℕ) (stop : Stop) {r : Turn} → r ≡ stopping stop (s .control .pc) (s .control .clock) → Stopped stop s
+    → Turned s deadline r (s .registers .values) (s .memory .values)
+stays s deadline stop q e =
+    subst (λ (r : Turn). Turned s deadline r (s .registers .values) (s .memory .values)) (sym q)
+    (record { goes = λ x. absurd (false≢true x); stops = λ x. (e, refl, refl); clock = λ m x y. x })

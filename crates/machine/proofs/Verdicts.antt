@@ -16,12 +16,12 @@ use Rattle.model.specs.Record.{State, isUpcall, endTickOf, newest, inUpcall}
 use Rattle.model.specs.Word.{Op, endUpcall, halt, opField, decode}
 use Rattle.model.specs.Ops.{Change, write, goto, nothing, does, row, isLabel, table}
 use Rattle.model.specs.Step.{Decision, spend, stall, close, carry, failed, fetched, known, fetch, endTick, finish, fault, attempt, plan, beyondLimit, inLimit, running, decide}
-use Rattle.machine.specs.declared.common.Stop.{Stop}
-use Rattle.machine.specs.declared.common.Stop.the-variants.{Out, Late, Failed, Rest}
-use Rattle.machine.specs.declared.rest.Act.{Act}
-use Rattle.machine.specs.declared.rest.Act.the-variants.{Pass, Halt}
-use Rattle.machine.specs.declared.rest.Verdict.{Verdict}
-use Rattle.machine.specs.declared.rest.Verdict.the-variants.{Spend, Stall, Close, Carry}
+use Rattle.machine.specs.declared.steps.common.Stop.{Stop}
+use Rattle.machine.specs.declared.steps.common.Stop.the-variants.{Out, Late, Failed, Rest}
+use Rattle.machine.specs.declared.steps.rest.Act.{Act}
+use Rattle.machine.specs.declared.steps.rest.Act.the-variants.{Pass, Halt}
+use Rattle.machine.specs.declared.steps.rest.Verdict.{Verdict}
+use Rattle.machine.specs.declared.steps.rest.Verdict.the-variants.{Spend, Stall, Close, Carry}
 use Rattle.machine.proofs.Turns.{cond-same}
 use Rattle.machine.specs.Common.{lateOf, Uncommon, Stopped}
 use Rattle.machine.specs.Rest.{changeOf, decisionOf, allowed, Acts, Held, Short, Timely, Limited, seen, Other, Ready, Rested, Planned, Decided}

@@ -10,8 +10,8 @@ use Rattle.model.specs.declared.Call.{Call}
 use Rattle.model.specs.declared.Call.the-variants.{Empty}
 use Rattle.model.specs.Record.{State, isEmpty, returnOf, pairOf}
 use Rattle.model.specs.Step.{written, changeWrite, writeOf, changed, controlAfter}
-use Rattle.machine.specs.declared.rest.Act.{Act}
-use Rattle.machine.specs.declared.rest.Verdict.{Verdict}
+use Rattle.machine.specs.declared.steps.rest.Act.{Act}
+use Rattle.machine.specs.declared.steps.rest.Verdict.{Verdict}
 use Rattle.machine.specs.Rest.{newestOf, changeOf, decisionOf}
 
 -- The state s with this timing label and these registers.

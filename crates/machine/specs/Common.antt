@@ -11,14 +11,9 @@ use Rattle.labels.specs.Label.{flows, join}
 use Rattle.model.specs.Record.{State, inUpcall}
 use Rattle.model.specs.Word.{opField, decode}
 use Rattle.model.specs.Step.{Decision, close, spend, failed, fetch, known, endTick, plan, inLimit, decide, step, moved}
-use Rattle.machine.specs.declared.common.Stop.{Stop}
-use Rattle.machine.specs.declared.common.Stop.the-variants.{Out, Late, Outside, Unreadable, Failed, Rest}
-use Rattle.machine.specs.declared.common.Turn.{Turn}
-
--- r is the register number n.
-pub record Register (n r : ℕ) : Type 0 where
-  pub is : r ≡ n
-  pub small : r < 16
+use Rattle.machine.specs.declared.steps.common.Stop.{Stop}
+use Rattle.machine.specs.declared.steps.common.Stop.the-variants.{Out, Late, Outside, Unreadable, Failed, Rest}
+use Rattle.machine.specs.declared.steps.common.Turn.{Turn}
 
 -- ---- what the leaves answer
 

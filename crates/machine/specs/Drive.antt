@@ -4,15 +4,24 @@ use Prim.Native.Nat.{ℕ, _≤_}
 use mathlib.Core.Path.{_≡_}
 use mathlib.Core.List.{List}
 use lib.ListN.{length}
+use Rattle.model.specs.declared.Pair.{Pair}
+use Rattle.model.specs.declared.Call.{Call}
 use Rattle.model.specs.declared.Fixed.{Fixed}
 use Rattle.model.specs.declared.Control.{Control}
-use Rattle.model.specs.Record.{State}
+use Rattle.model.specs.Record.{State, isUpcall, endTickOf}
 use Rattle.model.specs.Step.{steps}
+use Rattle.machine.specs.declared.steps.common.Context.{Context}
+use Rattle.machine.specs.Common.{deadlineOf}
 
 -- The state of these parts.
 abbrev pub stateFrom : Fixed → Control → List ℕ → List ℕ → List ℕ → List ℕ → State
 stateFrom fixed control values labels words marks =
     record { fixed = fixed; control = control; registers = record { values = values; labels = labels }; memory = record { values = words; labels = marks } }
+
+-- What the hot loop is told with this newest call.
+abbrev pub contextOf : ℕ → ℕ → Pair → Call → Context
+contextOf size limit pair call =
+    record { size = size; p = pair .pc; t = pair .timing; up = isUpcall call; deadline = deadlineOf (isUpcall call) (endTickOf call) limit }
 
 -- What the steps ask: the ranges of the record, and memory that is lent whole.
 pub record Fit (fixed : Fixed) (control : Control) (lent lentMarks : List ℕ) : Type 0 where

@@ -6,19 +6,20 @@ use mathlib.Core.Bool.{Bool, _&&_, cond}
 use mathlib.Core.Logic.{_⊎_}
 use mathlib.Core.List.{List}
 use lib.Dec.{ltb}
+use lib.ListN.{getD}
 use Rattle.labels.specs.Label.{flows, validPair}
 use Rattle.model.specs.declared.CallGate.{CallGate}
 use Rattle.model.specs.declared.Call.{Call}
 use Rattle.model.specs.Record.{State, register, isEmpty, newest, endTickOf}
 use Rattle.model.specs.Word.{opField, decode}
-use Rattle.model.specs.Ops.{nothing, label, Change, write, goto, enter, openUpcall, openGate, closeGate, stop, isLabel}
+use Rattle.model.specs.Ops.{nothing, label, Change, write, goto, enter, openUpcall, openGate, closeGate, stop, isLabel, noGate}
 use Rattle.model.specs.Step.{Decision, spend, stall, close, carry, known, endTick, plan, inLimit, decide}
-use Rattle.machine.specs.declared.common.Stop.{Stop}
-use Rattle.machine.specs.declared.common.Stop.the-variants.{Out, Late, Outside, Unreadable, Failed, Rest}
-use Rattle.machine.specs.declared.rest.Act.{Act}
-use Rattle.machine.specs.declared.rest.Act.the-variants.{Pass, Goto, SetLabel, Enter, OpenUpcall, OpenGate, CloseGate, Halt}
-use Rattle.machine.specs.declared.rest.Verdict.{Verdict}
-use Rattle.machine.specs.declared.rest.Verdict.the-variants.{Spend, Stall, Close, Carry}
+use Rattle.machine.specs.declared.steps.common.Stop.{Stop}
+use Rattle.machine.specs.declared.steps.common.Stop.the-variants.{Out, Late, Outside, Unreadable, Failed, Rest}
+use Rattle.machine.specs.declared.steps.rest.Act.{Act}
+use Rattle.machine.specs.declared.steps.rest.Act.the-variants.{Pass, Goto, SetLabel, Enter, OpenUpcall, OpenGate, CloseGate, Halt}
+use Rattle.machine.specs.declared.steps.rest.Verdict.{Verdict}
+use Rattle.machine.specs.declared.steps.rest.Verdict.the-variants.{Spend, Stall, Close, Carry}
 use Rattle.machine.specs.Common.{Stopped}
 
 -- The newest of the calls in the two places.
@@ -32,7 +33,7 @@ changeOf (Goto k) = goto k
 changeOf (SetLabel a l) = write (label (register a) l)
 changeOf (Enter q) = enter q
 changeOf (OpenUpcall k q e) = openUpcall k q e
-changeOf (OpenGate g) = openGate g
+changeOf (OpenGate k q) = openGate (record { entry = k; pair = q })
 changeOf CloseGate = closeGate
 changeOf Halt = stop
 
@@ -50,7 +51,7 @@ Writes (Goto k) pc = Unit
 Writes (SetLabel a l) pc = (a < 16) × (pc < 2048)
 Writes (Enter q) pc = pc < 2048
 Writes (OpenUpcall k q e) pc = pc < 2048
-Writes (OpenGate g) pc = pc < 2048
+Writes (OpenGate k q) pc = pc < 2048
 Writes CloseGate pc = Unit
 Writes Halt pc = Unit
 
@@ -89,6 +90,13 @@ pub record Timely (up : Bool) (e clock ticks : ℕ) (act : Act) (r : Verdict) : 
 -- x and y are labels, they form a valid pair, and lb and lc flow to p.
 abbrev pub allowed : ℕ → ℕ → ℕ → ℕ → ℕ → Bool
 allowed x y lb lc p = isLabel x && isLabel y && validPair x y && flows lb p && flows lc p
+
+-- The check of op 20: no call is open that bars it, x is the number of a gate, its pair is valid and flows to p, and so does
+-- lb.
+abbrev pub gateAllowed : ℕ → ℕ → ℕ → Call → ℕ → List CallGate → Bool
+gateAllowed x lb p call count gates =
+    let g = getD gates x noGate in
+    isEmpty call && ltb x count && validPair (g .pair .pc) (g .pair .timing) && flows (g .pair .pc) p && flows (g .pair .timing) p && flows lb p
 
 -- The state s with what the functions here are given in its place.
 abbrev pub seen : State → ℕ → ℕ → ℕ → List CallGate → ℕ → ℕ → ℕ → ℕ → List ℕ → List ℕ → State

@@ -6,9 +6,9 @@ use mathlib.Core.Bool.{Bool}
 use mathlib.Core.List.{List}
 use Rattle.model.specs.Record.{State}
 use Rattle.model.specs.Step.{steps}
-use Rattle.machine.specs.declared.common.Stop.{Stop}
-use Rattle.machine.specs.declared.common.Stop.the-variants.{Out, Late, Outside, Unreadable, Failed, Rest}
-use Rattle.machine.specs.declared.common.Pause.{Pause}
+use Rattle.machine.specs.declared.steps.common.Stop.{Stop}
+use Rattle.machine.specs.declared.steps.common.Stop.the-variants.{Out, Late, Outside, Unreadable, Failed, Rest}
+use Rattle.machine.specs.declared.steps.common.Pause.{Pause}
 use Rattle.machine.specs.Common.{view, Timed, Stopped}
 
 -- Why the loop paused in the state s with n steps left: none is left, or a reason to stop.

@@ -1,5 +1,5 @@
 // Whether a record is well-formed.
-use crate::rest::is_empty;
+use crate::calls::is_empty;
 use labels::Label;
 use model::Call;
 use model::Pair;

@@ -1,7 +1,7 @@
 // A word of the program taken apart: the op's number, the register numbers a, b, c and d, and the number n.
+ghost use Prim.Native.Nat.{_<_};
 ghost use mathlib.Core.Path.{_≡_};
 ghost use Rattle.model.specs.Word.{opField, aField, bField, cField, dField, nField};
-ghost use Rattle.machine.specs.Common.{Register};
 
 // The op's number.
 pub(crate) fn op_of(w: u32) -> u32
@@ -12,25 +12,25 @@ pub(crate) fn op_of(w: u32) -> u32
 
 // The register numbers.
 pub(crate) fn a_of(w: u32) -> usize
-    ensures { λ r. ⌜ Register (aField w) r ⌝ }
+    ensures { λ r. ⌜ (r ≡ aField w) × (r < 16) ⌝ }
 {
     (w / 1048576 % 16) as usize
 }
 
 pub(crate) fn b_of(w: u32) -> usize
-    ensures { λ r. ⌜ Register (bField w) r ⌝ }
+    ensures { λ r. ⌜ (r ≡ bField w) × (r < 16) ⌝ }
 {
     (w / 65536 % 16) as usize
 }
 
 pub(crate) fn c_of(w: u32) -> usize
-    ensures { λ r. ⌜ Register (cField w) r ⌝ }
+    ensures { λ r. ⌜ (r ≡ cField w) × (r < 16) ⌝ }
 {
     (w % 65536 / 4096) as usize
 }
 
 pub(crate) fn d_of(w: u32) -> usize
-    ensures { λ r. ⌜ Register (dField w) r ⌝ }
+    ensures { λ r. ⌜ (r ≡ dField w) × (r < 16) ⌝ }
 {
     (w % 65536 / 256 % 16) as usize
 }
