@@ -3,7 +3,7 @@
 use Prim.Native.Nat.{ℕ, _+_, _^_, _<_, _≤_}
 use mathlib.Core.Path.{_≡_, refl, sym, ap, _∙_, subst}
 use mathlib.Core.Logic.{_⊎_, inl, inr, ⊎-elim}
-use mathlib.Core.Bool.{Bool, true, false, cond, or-true}
+use mathlib.Core.Bool.{Bool, true, false, _||_, cond, or-true}
 use mathlib.Core.List.{List}
 use native.Mathlib.Nat.{le-refl, le-trans, lt-of-lt-of-le}
 use native.Mathlib.Omega.{arith}
@@ -39,7 +39,8 @@ cause-legal : (s : State) (cause : ℕ) → Fit (s .fixed) (s .control) → caus
 unfolding causeWrite causeAllowed
 cause-legal s cause f h =
     choice (LegalWrite s) (causeAllowed s) _ _
-    (λ e. sets (lit< tt) (flows-trans (valid-flows _ _ _ (f .valid)) (record { holds = e })) (omega arith))
+    (λ e. let k : s .control .pair .timing ⊑ labelAt s (register 15) = record { holds = e } in
+    sets (lit< tt) (flows-trans (valid-flows _ _ _ (f .valid)) k) (omega arith))
     (λ e. keeps)
 
 -- What a change writes is legal.
@@ -187,8 +188,14 @@ pub step-ended : (s : State) → running s ≡ false → step s ≡ s
 unfolding step apply decide writeOf written controlAfter
 step-ended s e = rw e
 
--- At clock = limit every step of a running record spends the clock.
+-- At clock = limit everything is beyond the limit.
+at-limit : (s : State) (d : Decision) → s .control .clock ≡ s .fixed .limit → beyondLimit s d ≡ true
+unfolding beyondLimit
+at-limit s d e =
+    let late = ltb (s .fixed .limit) (finish s d) in
+    ap (λ (b : Bool). late || b) (eq-eqb (s .control .clock) (s .fixed .limit) e) ∙ or-true late
+
+-- So every step of a running record there spends the clock.
 pub spends-at-limit : (s : State) → running s ≡ true → s .control .clock ≡ s .fixed .limit → decide s ≡ spend
-unfolding decide inLimit beyondLimit
-spends-at-limit s r e =
-    rw (r, eq-eqb (s .control .clock) (s .fixed .limit) e, or-true (ltb (s .fixed .limit) (finish s (plan s (fetch s)))))
+unfolding decide inLimit
+spends-at-limit s r e = rw (r, at-limit s (plan s (fetch s)) e)

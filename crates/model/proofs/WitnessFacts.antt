@@ -292,7 +292,7 @@ counterexample ℓ k s t qs met f e p q =
 -- ---- the tables
 
 -- All that a table computes with: the definitions of labels too. Who says `unfolding computing` opens each of them.
-abbrev computing : Bool
+unfoldable pub computing : Bool
 unfolding subset label integrity confidentiality flows join meet reflection uncompromised validPair lowest mayRaise mayRelabel newest inUpcall valueAt labelAt fixedInRange endInRange upcallWellFormed wellFormed lentWhole opField aField bField cField dField nField decode compute isLabel significantBits multiplyTicks newPairAllowed mayUpcall mayCallGate mayReturn table fetch endTick finish fault attempt beyondLimit inLimit running decide written causeAllowed causeWrite writeOf restored changed controlAfter apply step steps run answer within exists seenAt seenControl lend regain answered after runStates workStates callStates trace final atTick reached downgrades gateCallsIn timedFromOutside sameSeen samePair sameCall sameControl sameSeenControl leadingZeros
 computing = true
 
@@ -327,9 +327,9 @@ pub gate-needed : Counterexample 240 4 (callingGate 0) (callingGate 1) oneRun (t
 unfolding computing
 gate-needed = counterexample 240 4 (callingGate 0) (callingGate 1) oneRun _ refl refl refl refl
 
-pub timing-needed : Counterexample 240 2 (timedBySecret 0) (timedBySecret 1) oneRun (true ∷ true ∷ false ∷ [])
+pub timing-needed : Counterexample 240 5 (timedBySecret 0) (timedBySecret (2 ^ 31)) oneRun (true ∷ true ∷ false ∷ [])
 unfolding computing
-timing-needed = counterexample 240 2 (timedBySecret 0) (timedBySecret 1) oneRun _ refl refl refl refl
+timing-needed = counterexample 240 5 (timedBySecret 0) (timedBySecret (2 ^ 31)) oneRun _ refl refl refl refl
 
 -- Nor without equal settings, or at the last clock itself.
 pub needed-hold : every neededTable ≡ true

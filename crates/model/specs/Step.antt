@@ -28,12 +28,16 @@ abbrev pub known : ℕ → Option Op → Fetched
 known w none = failed 3
 known w (some op) = fetched w op
 
+-- The label of the word at the pc flows to p.
+abbrev pub fetchAllowed : State → Bool
+fetchAllowed s = flows (labelAt s (word (s .control .pc))) (s .control .pair .pc)
+
 -- Fetch fails when the pc is not below the size (why 1), the word's label doesn't flow to p (2), or the op is unknown
 -- (3), tried in that order.
 unfoldable pub fetch : State → Fetched
 fetch s =
     cond (ltb (s .control .pc) (s .fixed .size))
-    (cond (flows (labelAt s (word (s .control .pc))) (s .control .pair .pc))
+    (cond (fetchAllowed s)
     (known (valueAt s (word (s .control .pc))) (decode (opField (valueAt s (word (s .control .pc))))))
     (failed 2))
     (failed 1)
