@@ -183,6 +183,17 @@ step-passes s r = rw (step-control s) (passes s (r .fit) (legal s (r .typed)))
 pub step-clock : (s : State) → step s .control .clock ≡ finish s (decide s)
 step-clock s = ap (λ c. c .clock) (step-control s) ∙ clock-after s (decide s)
 
+-- A carried-out step's clock is the clock before plus its ticks.
+pub carried-clock : (s : State) (ticks : ℕ) (c : Change) → decide s ≡ carry ticks c
+    → step s .control .clock ≡ s .control .clock + ticks
+unfolding finish
+carried-clock s ticks c e = step-clock s ∙ ap (finish s) e
+
+-- A close's is the end tick + 1.
+pub closed-clock : (s : State) (cause : ℕ) → decide s ≡ close cause → step s .control .clock ≡ endTick s + 1
+unfolding finish
+closed-clock s cause e = step-clock s ∙ ap (finish s) e
+
 -- An ended record steps to itself.
 pub step-ended : (s : State) → running s ≡ false → step s ≡ s
 unfolding step apply decide writeOf written controlAfter
