@@ -1,20 +1,18 @@
 -- What a step's decision tells of the state in which it is taken: the facts that the checks of the op table establish, by
 -- kind of change and not by op. All later proofs go by these.
 -- Assumes nothing.
-use Prim.Native.Nat.{ℕ, zero, suc, _+_, _-_, _/_, _%_, _^_, _<_, _≤_, zero-le}
-use mathlib.Core.Path.{_≡_, refl, sym, ap, _∙_, subst}
+use Prim.Native.Nat.{ℕ, _+_, _%_, _^_, _<_, _≤_}
+use mathlib.Core.Path.{_≡_}
 use mathlib.Core.Logic.{_⊎_, inl, inr, ⊎-elim}
-use mathlib.Core.Bool.{Bool, true, false, not, _&&_, _||_, cond}
+use mathlib.Core.Bool.{Bool, true, false, _&&_, _||_, cond}
 use mathlib.Core.Option.{Option, none, some}
 use native.Mathlib.Nat.{mod-lt, lt-trans}
 use native.Mathlib.Omega.{arith}
 use lib.Bits.{and-lt, or-lt, xor-lt}
 use lib.Dec.{ltb, eqb, lit<, lit≤}
-use lib.Pow.{pow-pos, shr-lt}
-use lib.ListN.{getD}
-use borrow.Author.Tests.{ltb-true, ltb-false, eqb-true, eqb-false}
-use Rattle.labels.specs.Label.{flows, join, meet, principals}
-use Rattle.labels.proofs.Laws.{Flows, flows-trans, join-flows, flows-meet, raise-flows-old, raise-flows-new, relabel-flows-old, relabel-flows-new}
+use borrow.Author.Tests.{ltb-true, ltb-false, eqb-true}
+use Rattle.labels.specs.Label.{principals}
+use Rattle.labels.proofs.Laws.{Flows, join-flows, flows-meet, raise-flows-old, raise-flows-new, relabel-flows-old, relabel-flows-new}
 use Rattle.model.specs.declared.Pair.{Pair}
 use Rattle.model.specs.declared.CallGate.{CallGate}
 use Rattle.model.specs.Record.{State, Location, register, word, valueAt, labelAt, isEmpty, isGate, pairOf, newest, inUpcall}
@@ -22,8 +20,8 @@ use Rattle.model.specs.WellFormed.{isValid}
 use Rattle.model.specs.Typed.{Typed, Below}
 use Rattle.model.specs.Word.{Arithmetic, add, subtract, and, or, xor, less, multiply, Rule, raise, relabel, Op, immediate, arithmetic, load, store, branch, jump, readClock, setLabel, setPair, upcall, endUpcall, gateCall, gateReturn, halt, opField, aField, nField, decode, compute}
 use Rattle.model.specs.Ops.{Write, nothing, value, label, Change, write, goto, enter, openUpcall, openGate, closeGate, stop, Effect, does, ends, Row, allows, newPairAllowed, mayUpcall, mayCallGate, mayReturn, multiplyTicks, arithmeticTicks, Ra, table}
-use Rattle.model.specs.Step.{Fetched, failed, fetched, known, fetchAllowed, fetch, Decision, rest, spend, stall, close, carry, endTick, finish, fault, passed, attempt, inTime, plan, beyondLimit, inLimit, running, decide}
-use Rattle.model.proofs.Truth.{choice, either, and-iff, or-iff, or-true, not-iff, clash}
+use Rattle.model.specs.Step.{known, fetchAllowed, fetch, Decision, rest, spend, stall, close, carry, endTick, finish, fault, passed, attempt, inTime, plan, beyondLimit, inLimit, running, decide}
+use Rattle.model.proofs.Truth.{choice, and-iff, or-iff, or-true, not-iff, clash}
 
 -- The one label flows to the other.
 abbrev pub _⊑_ : ℕ → ℕ → Type 0

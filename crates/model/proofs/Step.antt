@@ -1,28 +1,27 @@
 -- The laws of one step: what it writes fits and is legal, what it leaves, and where it leaves the clock.
 -- Assumes nothing.
 use Prim.Native.Nat.{ℕ, _+_, _^_, _<_, _≤_}
-use mathlib.Core.Path.{_≡_, refl, sym, ap, _∙_, subst}
-use mathlib.Core.Logic.{_⊎_, inl, inr, ⊎-elim}
-use mathlib.Core.Bool.{Bool, true, false, _||_, cond, or-true}
+use mathlib.Core.Path.{_≡_, refl, ap, _∙_, subst}
+use mathlib.Core.Logic.{_⊎_, inl, inr}
+use mathlib.Core.Bool.{Bool, true, false, _||_, or-true}
 use mathlib.Core.List.{List}
-use native.Mathlib.Nat.{le-refl, le-trans, lt-of-lt-of-le}
+use native.Mathlib.Nat.{le-refl, lt-of-lt-of-le}
 use native.Mathlib.Omega.{arith}
 use lib.Dec.{eqb, ltb, lit<}
-use lib.ListN.{getD, set, length, drop, length-set}
+use lib.ListN.{getD, set, length, drop}
 use lib.Seq.{drop-set-lt}
 use borrow.Author.Tests.{eq-eqb}
-use Rattle.labels.specs.Label.{flows}
-use Rattle.labels.proofs.Laws.{Flows, flows-trans, valid-flows}
+use Rattle.labels.proofs.Laws.{flows-trans, valid-flows}
 use Rattle.model.specs.declared.Fixed.{Fixed}
 use Rattle.model.specs.declared.Control.{Control}
-use Rattle.model.specs.Record.{State, Location, register, word, bankOf, indexOf, valueAt, labelAt, newest, inUpcall}
+use Rattle.model.specs.Record.{State, Location, register, word, labelAt, newest, inUpcall}
 use Rattle.model.specs.Typed.{Typed, Below}
-use Rattle.model.specs.Ops.{Write, nothing, value, label, Change, write, goto, enter, openUpcall, openGate, closeGate, stop}
+use Rattle.model.specs.Ops.{Write, value, label, Change, write, goto, enter, openUpcall, openGate, closeGate, stop}
 use Rattle.model.specs.Step.{Decision, rest, spend, stall, close, carry, endTick, finish, fetch, plan, beyondLimit, inLimit, running, decide, written, causeAllowed, causeWrite, changeWrite, writeOf, changed, restored, controlAfter, apply, step}
 use Rattle.model.proofs.Truth.{choice, clash}
 use Rattle.model.proofs.Writes.{There, Lengths, lengths, set-at, written-lengths}
 use Rattle.model.proofs.Legal.{_⊑_, Inside, LegalWrite, keeps, sets, marks, LegalChange, writes, goes, enters, calls, gates, returns, stops, Legal, rests, spends, stalls, closes, carries, legal}
-use Rattle.model.proofs.WellFormed.{Fit, UpcallFit, top-upcall, step-fit, step-fixed, step-control}
+use Rattle.model.proofs.WellFormed.{Fit, top-upcall, step-fit, step-fixed, step-control}
 
 -- A state that a call is carried out on: its record is well-formed, its lists are as the types say, and the lent words and
 -- labels are each at least as long as the size.

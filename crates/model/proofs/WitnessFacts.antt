@@ -7,7 +7,7 @@ use mathlib.Core.Logic.{⊎-elim}
 use mathlib.Core.Bool.{Bool, true, false, not, _||_, or-true}
 use mathlib.Core.List.{List, [], _∷_}
 use native.Mathlib.Omega.{arith}
-use lib.Dec.{leb, ltb, eqb, lit<}
+use lib.Dec.{leb, ltb, eqb}
 use lib.Count.{leadingZeros}
 use lib.ListN.{getD}
 use borrow.Author.Tests.{ltb-true, eqb-true, eqb-false, eq-eqb, le-leb}
@@ -15,10 +15,9 @@ use Rattle.model.specs.declared.Pair.{Pair}
 use Rattle.model.specs.declared.Call.{Call}
 use Rattle.model.specs.declared.Call.the-variants.{Empty, Gate, Upcall}
 use Rattle.labels.specs.Principals.{subset, label, integrity, confidentiality, flows, join, meet, reflection, uncompromised, validPair, lowest, mayRaise, mayRelabel}
-use Rattle.model.specs.Record.{State, Location, register, word, valueAt, labelAt, isEmpty, newest, inUpcall}
+use Rattle.model.specs.Record.{State, Location, register, word, valueAt, labelAt, newest, inUpcall}
 use Rattle.model.specs.WellFormed.{fixedInRange, endInRange, upcallWellFormed, wellFormed, lentWhole}
 use Rattle.model.specs.Word.{opField, aField, bField, cField, dField, nField, decode, compute}
-use Rattle.model.specs.Typed.{Below}
 use Rattle.model.specs.Ops.{isLabel, significantBits, multiplyTicks, noGate, newPairAllowed, mayUpcall, mayCallGate, mayReturn, table}
 use Rattle.model.specs.Step.{fetch, endTick, finish, fault, attempt, beyondLimit, inLimit, running, decide, written, causeAllowed, causeWrite, writeOf, restored, changed, controlAfter, apply, step, steps, run}
 use Rattle.model.specs.Answer.{answer}
@@ -27,7 +26,7 @@ use Rattle.model.specs.Load.{headerInRange, gateInRange, entryInRange, l
 use Rattle.model.specs.Listing.{decimalIn, decimal, fields, line, differs, entryLine, entryLines}
 use Rattle.model.specs.Program.{stateOfLoad}
 use Rattle.model.specs.Seen.{within, exists, Seen, hidden, shown, seenAt, SeenControl, unseen, seen, seenControl, LowEquivalent}
-use Rattle.model.specs.Noninterference.{Invocation, lend, regain, answered, after, runStates, workStates, callStates, trace, final, atTick, reached, downgrades, gateCallsIn, timedFromOutside, StepsProvisos, Provisos, Loaded, SameSetting}
+use Rattle.model.specs.Noninterference.{Invocation, lend, regain, answered, after, runStates, workStates, callStates, trace, final, atTick, reached, downgrades, gateCallsIn, timedFromOutside, StepsProvisos, Provisos, SameSetting}
 use Rattle.model.specs.Witness.{each, eachLocation, sameSeen, samePair, sameCall, sameControl, sameSeenControl, lowEquivalent, noDowngrade, noGateIn, timedWithin, upTo, provisos, provisosHold, qualifies, textOf, Loads, Counterexample, fixedOf, usual, interrupted, oneRun, left, right, leftAt, rightAt, mainTable, downgrading, callingGate, timedBySecret, under, nothingThere, gateCalled, unbrokenTable, reachedTable}
 use Rattle.model.specs.Facts.{every}
 use Rattle.model.proofs.Truth.{either, clash, and-iff, not-iff}

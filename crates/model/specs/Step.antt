@@ -2,13 +2,12 @@
 -- nothing, and says what would happen and at which clock that would finish. The second applies the decision.
 -- Assumes nothing.
 use Prim.Native.Nat.{ℕ, zero, suc, _+_, _-_}
-use mathlib.Core.Bool.{Bool, true, false, not, _&&_, _||_, cond}
+use mathlib.Core.Bool.{Bool, _&&_, _||_, cond}
 use mathlib.Core.Option.{Option, none, some}
 use lib.Dec.{ltb, eqb}
 use lib.ListN.{set}
 use Rattle.labels.specs.Label.{flows}
 use Rattle.model.specs.declared.Pair.{Pair}
-use Rattle.model.specs.declared.CallGate.{CallGate}
 use Rattle.model.specs.declared.Control.{Control}
 use Rattle.model.specs.declared.Call.{Call}
 use Rattle.model.specs.declared.Call.the-variants.{Empty, Gate, Upcall}

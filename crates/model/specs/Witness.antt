@@ -6,7 +6,7 @@ use Prim.Native.Nat.{ℕ, zero, suc, _+_, _-_, _*_, _^_, max}
 use mathlib.Core.Path.{_≡_}
 use mathlib.Core.Bool.{Bool, true, false, not, _&&_, _||_}
 use mathlib.Core.List.{List, [], _∷_, _++_}
-use lib.Dec.{leb, ltb, eqb}
+use lib.Dec.{leb, eqb}
 use lib.ListN.{length, take, replicate}
 use Rattle.labels.specs.Label.{uncompromised, lowest}
 use Rattle.model.specs.declared.Pair.{Pair}
@@ -16,13 +16,12 @@ use Rattle.model.specs.declared.Control.{Control}
 use Rattle.model.specs.declared.Call.{Call}
 use Rattle.model.specs.declared.Call.the-variants.{Empty, Gate, Upcall}
 use Rattle.model.specs.Record.{Bank, State, Location, register, word, machineOf, valueAt, labelAt, isEmpty, inUpcall}
-use Rattle.model.specs.WellFormed.{wellFormed, lentWhole}
 use Rattle.model.specs.Ops.{noGate, mayCallGate}
 use Rattle.model.specs.Step.{running, decide, moved, opened, ended, step}
 use Rattle.model.specs.Load.{load}
 use Rattle.model.specs.Listing.{line, entryLines}
 use Rattle.model.specs.Seen.{within, Seen, hidden, shown, seenAt, SeenControl, unseen, seen, seenControl, LowEquivalent}
-use Rattle.model.specs.Noninterference.{Kind, stepCall, runCall, whole, part, Invocation, trace, final, atTick, reached, downgrades, callsGate, gateCallsIn, timedFromOutside, Loaded, SameSetting}
+use Rattle.model.specs.Noninterference.{Kind, stepCall, runCall, whole, part, Invocation, trace, final, atTick, reached, downgrades, callsGate, gateCallsIn, timedFromOutside}
 use Rattle.model.specs.Facts.{wordOf, end, stop, every}
 
 -- ---- the terms of the statement, as tests

@@ -2,27 +2,25 @@
 -- its change of control is within sight, and what decides a write to a location within sight is too. So both steps leave
 -- one control, and states that are alike.
 -- Assumes nothing.
-use Prim.Native.Nat.{ℕ, _+_, _<_, _≤_, _/_, _%_, _^_}
+use Prim.Native.Nat.{ℕ, _+_, _<_, _/_, _%_, _^_}
 use mathlib.Core.Path.{_≡_, refl, sym, ap, ap₂, _∙_, subst}
 use mathlib.Core.Logic.{_⊎_, inl, inr, ⊎-elim}
-use mathlib.Core.Bool.{Bool, true, false, not, _&&_, cond}
+use mathlib.Core.Bool.{Bool, true, false, _&&_, cond}
 use native.Mathlib.Nat.{mod-lt}
 use lib.Dec.{ltb, eqb, lit<}
 use lib.Pow.{shr-lt}
 use lib.ListN.{getD}
 use borrow.Author.Tests.{ltb-true, eq-eqb}
-use Rattle.labels.specs.Label.{flows, join}
-use Rattle.labels.proofs.Laws.{Flows, flows-trans, join-flows}
-use Rattle.model.specs.declared.Pair.{Pair}
-use Rattle.model.specs.declared.CallGate.{CallGate}
+use Rattle.labels.specs.Label.{flows}
+use Rattle.labels.proofs.Laws.{join-flows}
 use Rattle.model.specs.declared.Control.{Control}
-use Rattle.model.specs.Record.{State, Location, register, word, valueAt, labelAt, newest, inUpcall}
+use Rattle.model.specs.Record.{State, Location, register, word, valueAt, labelAt, inUpcall}
 use Rattle.model.specs.Word.{Arithmetic, add, subtract, and, or, xor, less, multiply, Op, immediate, arithmetic, load, store, branch, jump, readClock, setLabel, setPair, upcall, endUpcall, gateCall, gateReturn, halt, aField, bField, cField, dField, nField, decode, opField}
-use Rattle.model.specs.Ops.{Write, nothing, value, label, Change, write, goto, enter, openUpcall, openGate, closeGate, stop, Effect, does, ends, Row, row, noGate, newPairAllowed, mayUpcall, mayCallGate, mayReturn, multiplyTicks, arithmeticTicks, Rb, gate, table}
-use Rattle.model.specs.Step.{Fetched, failed, fetched, known, fetchAllowed, fetch, Decision, rest, spend, stall, close, carry, endTick, finish, fault, passed, attempt, inTime, plan, beyondLimit, inLimit, running, decide, causeAllowed, causeWrite, changeWrite, writeOf, written, withControl, restored, changed, controlAfter, apply, step}
+use Rattle.model.specs.Ops.{Write, nothing, value, label, write, goto, enter, openUpcall, openGate, closeGate, stop, Effect, does, ends, Row, row, noGate, newPairAllowed, mayUpcall, mayCallGate, mayReturn, multiplyTicks, arithmeticTicks, Rb, gate, table}
+use Rattle.model.specs.Step.{Fetched, failed, fetched, known, fetchAllowed, fetch, Decision, rest, spend, stall, close, carry, endTick, finish, fault, attempt, inTime, plan, beyondLimit, inLimit, running, decide, causeAllowed, causeWrite, writeOf, written, withControl, changed, controlAfter, apply, step}
 use Rattle.model.specs.Seen.{within, exists}
 use Rattle.model.specs.Noninterference.{SameSetting, StepProvisos, downgrades}
-use Rattle.model.proofs.Truth.{either, clash, and-iff, not-iff, same-outcome, same-choice}
+use Rattle.model.proofs.Truth.{either, clash, and-iff, same-choice}
 use Rattle.model.proofs.Writes.{same, label-after-label}
 use Rattle.model.proofs.Legal.{_⊑_, Inside, LegalWrite, keeps, sets, marks}
 use Rattle.model.proofs.WellFormed.{step-control}
