@@ -56,13 +56,16 @@ pub data Decision : Type 0 where
 unfoldable pub endTick : State → ℕ
 endTick s = endTickOf (newest (s .control))
 
--- The clock that a decision leaves: the clock and the ticks; where it closes an upcall the end tick + 1, one tick past
--- its time (a departure from the source).
+-- Closing an upcall finishes at its end tick + 1, one tick past its time (a departure from the source).
+abbrev pub closingTick : State → ℕ
+closingTick s = endTick s + 1
+
+-- The clock that a decision leaves: the clock and the ticks, or where it closes an upcall the tick for that.
 unfoldable pub finish : State → Decision → ℕ
 finish s rest = s .control .clock
 finish s spend = s .fixed .limit
 finish s (stall why) = s .control .clock
-finish s (close cause) = endTick s + 1
+finish s (close cause) = closingTick s
 finish s (carry ticks change) = s .control .clock + ticks
 
 -- A failed fetch closes an upcall with cause 3. Outside one it sets the pc to the error pc in 1 tick, or where the pc
@@ -204,7 +207,7 @@ unfoldable pub controlAfter : State → Decision → Control
 controlAfter s rest = s .control
 controlAfter s spend = ended (s .control) (s .fixed .limit) 2 0
 controlAfter s (stall why) = ended (s .control) (s .control .clock) 3 why
-controlAfter s (close cause) = restored (s .control) (endTick s + 1)
+controlAfter s (close cause) = restored (s .control) (closingTick s)
 controlAfter s (carry ticks change) = changed (s .control) (s .control .clock + ticks) change
 
 -- The state with another control.

@@ -17,7 +17,7 @@ use Rattle.model.specs.Ops.{noGate}
 use Rattle.model.specs.Step.{endTick, running, withControl, step, steps}
 use Rattle.model.specs.Seen.{within, seen, unseen, seenControl, LowEquivalent}
 use Rattle.model.specs.Noninterference.{StepProvisos, timedFromOutside, SameSetting}
-use Rattle.model.proofs.Truth.{either, clash}
+use Rattle.model.proofs.Truth.{either, clash, and-iff, not-iff}
 use Rattle.model.proofs.Legal.{_⊑_}
 use Rattle.model.proofs.WellFormed.{step-fixed}
 use Rattle.model.proofs.Step.{Ready, step-ready}
@@ -64,7 +64,7 @@ same-control ℓ s t e = ap (λ (c : Control). seenControl ℓ (withControl s c)
 no-control : (ℓ : ℕ) (s t : State) → within ℓ (s .control .pair .pc) ≡ false → within ℓ (t .control .pair .pc) ≡ false
     → seenControl ℓ s ≡ seenControl ℓ t
 unfolding seenControl
-no-control ℓ s t e f = rw (e, f)
+no-control ℓ s t e f = rw (e, f) refl
 
 -- A state whose pc label is within has its timing label within, by the proviso.
 timing-within : (ℓ : ℕ) (s : State) → timedFromOutside ℓ s ≡ false → within ℓ (s .control .pair .pc) ≡ true
@@ -73,7 +73,7 @@ unfolding timedFromOutside
 timing-within ℓ s p e =
     ⊎-elim
     (λ (h : within ℓ (s .control .pair .timing) ≡ true). h)
-    (λ (h : within ℓ (s .control .pair .timing) ≡ false). clash (rw (e, h)) p)
+    (λ (h : within ℓ (s .control .pair .timing) ≡ false). clash (and-iff _ _ .1 (e, not-iff _ .1 h)) p)
     (either (within ℓ (s .control .pair .timing)))
 
 -- ---- how two machines with one control stand

@@ -132,7 +132,7 @@ short-row q s r e =
     let h = answer-short q s r e in
     record {
       count = 0;
-      states = rw h;
+      states = rw h refl;
       last =
           rw (h, regain-lent (s .fixed .size) (q .words) (s .memory .values), regain-lent (s .fixed .size) (q .labels) (s .memory .labels));
     }

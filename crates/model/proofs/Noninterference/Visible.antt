@@ -325,7 +325,7 @@ module _ {ℓ : ℕ} {c : Control} {a b : State} (h : Together ℓ c a b) where
   multiply-same : (v v′ : Bool) (x x′ : ℕ) → v ≡ v′ → (v ≡ true → x ≡ x′) → multiplyTicks v x ≡ multiplyTicks v′ x′
   unfolding multiplyTicks
   multiply-same true v′ x x′ e f = rw (← e, f refl)
-  multiply-same false v′ x x′ e f = rw (← e)
+  multiply-same false v′ x x′ e f = ap (λ (b : Bool). multiplyTicks b x′) e
 
   -- The ticks of ops 2 to 8.
   ticks-same : (f : Arithmetic) (v v′ : Bool) (x x′ : ℕ) → v ≡ v′ → (v ≡ true → x ≡ x′)
