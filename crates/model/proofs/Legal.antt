@@ -19,7 +19,7 @@ use Rattle.model.specs.Record.{State, Location, register, word, valueAt,
 use Rattle.model.specs.WellFormed.{isValid}
 use Rattle.model.specs.Typed.{Typed, Below}
 use Rattle.model.specs.Word.{Arithmetic, add, subtract, and, or, xor, less, multiply, Rule, raise, relabel, Op, immediate, arithmetic, load, store, branch, jump, readClock, setLabel, setPair, upcall, endUpcall, gateCall, gateReturn, halt, opField, aField, nField, decode, compute}
-use Rattle.model.specs.Ops.{Write, nothing, value, label, Change, write, goto, enter, openUpcall, openGate, closeGate, stop, Effect, does, ends, Row, allows, newPairAllowed, mayUpcall, mayCallGate, mayReturn, multiplyTicks, arithmeticTicks, Ra, table}
+use Rattle.model.specs.Ops.{Write, nothing, value, label, Change, write, goto, enter, openUpcall, openGate, closeGate, stop, Effect, does, ends, Row, allows, newPairAllowed, mayUpcall, mayCallGate, mayReturn, multiplyTicks, arithmeticTicks, Ra, newPair, gate, table}
 use Rattle.model.specs.Step.{known, fetchAllowed, fetch, Decision, rest, spend, stall, close, carry, endTick, finish, fault, passed, attempt, inTime, plan, beyondLimit, inLimit, running, decide}
 use Rattle.model.proofs.Truth.{choice, and-iff, or-iff, or-true, not-iff, clash}
 
@@ -198,7 +198,7 @@ module _ (s : State) (typed : Typed s) (w : ℕ) where
       record {
         long = lit≤ tt;
         passes = λ e. let h = simp and-iff at e in
-            carried (enters (h .0 .0 .0 .0 .1) (record { holds = h .0 .1 }) (record { holds = h .1 }));
+            carried (enters {q = newPair s w} (h .0 .0 .0 .0 .1) (record { holds = h .0 .1 }) (record { holds = h .1 }));
       }
   row-legal upcall =
       record {
@@ -221,7 +221,7 @@ module _ (s : State) (typed : Typed s) (w : ℕ) where
         long = lit≤ tt;
         passes = λ e. let h = simp and-iff at e in
             carried
-            (gates
+            (gates {g = gate s w}
             (record {
               empty = h .0 .0 .0 .0 .0;
               valid = h .0 .0 .0 .1;
