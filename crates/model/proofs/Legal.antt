@@ -1,29 +1,27 @@
 -- What a step's decision tells of the state in which it is taken: the facts that the checks of the op table establish, by
 -- kind of change and not by op. All later proofs go by these.
 -- Assumes nothing.
-use Prim.Native.Nat.{ℕ, zero, suc, _+_, _-_, _/_, _%_, _^_, _<_, _≤_, zero-le}
-use mathlib.Core.Path.{_≡_, refl, sym, ap, _∙_, subst}
+use Prim.Native.Nat.{ℕ, _+_, _%_, _^_, _<_, _≤_}
+use mathlib.Core.Path.{_≡_}
 use mathlib.Core.Logic.{_⊎_, inl, inr, ⊎-elim}
-use mathlib.Core.Bool.{Bool, true, false, not, _&&_, _||_, cond}
+use mathlib.Core.Bool.{Bool, true, false, _&&_, _||_, cond}
 use mathlib.Core.Option.{Option, none, some}
 use native.Mathlib.Nat.{mod-lt, lt-trans}
 use native.Mathlib.Omega.{arith}
 use lib.Bits.{and-lt, or-lt, xor-lt}
 use lib.Dec.{ltb, eqb, lit<, lit≤}
-use lib.Pow.{pow-pos, shr-lt}
-use lib.ListN.{getD}
-use borrow.Author.Tests.{ltb-true, ltb-false, eqb-true, eqb-false}
-use Rattle.labels.specs.Label.{flows, join, meet, principals}
-use Rattle.labels.proofs.Laws.{Flows, flows-trans, join-flows, flows-meet, raise-flows-old, raise-flows-new, relabel-flows-old, relabel-flows-new}
+use borrow.Author.Tests.{ltb-true, ltb-false, eqb-true}
+use Rattle.labels.specs.Label.{principals}
+use Rattle.labels.proofs.Laws.{Flows, join-flows, flows-meet, raise-flows-old, raise-flows-new, relabel-flows-old, relabel-flows-new}
 use Rattle.model.specs.declared.Pair.{Pair}
 use Rattle.model.specs.declared.CallGate.{CallGate}
 use Rattle.model.specs.Record.{State, Location, register, word, valueAt, labelAt, isEmpty, isGate, pairOf, newest, inUpcall}
 use Rattle.model.specs.WellFormed.{isValid}
 use Rattle.model.specs.Typed.{Typed, Below}
 use Rattle.model.specs.Word.{Arithmetic, add, subtract, and, or, xor, less, multiply, Rule, raise, relabel, Op, immediate, arithmetic, load, store, branch, jump, readClock, setLabel, setPair, upcall, endUpcall, gateCall, gateReturn, halt, opField, aField, nField, decode, compute}
-use Rattle.model.specs.Ops.{Write, nothing, value, label, Change, write, goto, enter, openUpcall, openGate, closeGate, stop, Effect, does, ends, Row, allows, newPairAllowed, mayUpcall, mayCallGate, mayReturn, multiplyTicks, arithmeticTicks, Ra, table}
-use Rattle.model.specs.Step.{Fetched, failed, fetched, known, fetch, Decision, rest, spend, stall, close, carry, endTick, finish, fault, passed, attempt, inTime, plan, beyondLimit, inLimit, running, decide}
-use Rattle.model.proofs.Truth.{choice, either, and-iff, or-iff, or-true, not-iff, clash}
+use Rattle.model.specs.Ops.{Write, nothing, value, label, Change, write, goto, enter, openUpcall, openGate, closeGate, stop, Effect, does, ends, Row, allows, newPairAllowed, mayUpcall, mayCallGate, mayReturn, multiplyTicks, arithmeticTicks, Ra, newPair, gate, table}
+use Rattle.model.specs.Step.{known, fetchAllowed, fetch, Decision, rest, spend, stall, close, carry, endTick, finish, fault, passed, attempt, inTime, plan, beyondLimit, inLimit, running, decide}
+use Rattle.model.proofs.Truth.{choice, and-iff, or-iff, or-true, not-iff, clash}
 
 -- The one label flows to the other.
 abbrev pub _⊑_ : ℕ → ℕ → Type 0
@@ -124,6 +122,11 @@ ticks-long less visible v = lit≤ tt
 ticks-long multiply true v = omega arith
 ticks-long multiply false v = omega arith
 
+-- A test of two numbers below and two equal: of what it says one holds.
+below-or-equal : (i j m n : ℕ) → (ltb i j || eqb m n) ≡ true → (i < j) ⊎ (m ≡ n)
+below-or-equal i j m n e =
+    ⊎-elim (λ a. inl (ltb-true i j a)) (λ a. inr (eqb-true m n a)) (or-true (ltb i j) (eqb m n) e)
+
 -- ---- the op table
 
 module _ (s : State) (typed : Typed s) (w : ℕ) where
@@ -195,7 +198,7 @@ module _ (s : State) (typed : Typed s) (w : ℕ) where
       record {
         long = lit≤ tt;
         passes = λ e. let h = simp and-iff at e in
-            carried (enters (h .0 .0 .0 .0 .1) (record { holds = h .0 .1 }) (record { holds = h .1 }));
+            carried (enters {q = newPair s w} (h .0 .0 .0 .0 .1) (record { holds = h .0 .1 }) (record { holds = h .1 }));
       }
   row-legal upcall =
       record {
@@ -218,7 +221,7 @@ module _ (s : State) (typed : Typed s) (w : ℕ) where
         long = lit≤ tt;
         passes = λ e. let h = simp and-iff at e in
             carried
-            (gates
+            (gates {g = gate s w}
             (record {
               empty = h .0 .0 .0 .0 .0;
               valid = h .0 .0 .0 .1;
@@ -302,17 +305,18 @@ module _ (s : State) (typed : Typed s) where
   unfolding fetch
   planned =
       choice (λ f. Planned s (plan s f)) (ltb (s .control .pc) (s .fixed .size)) _ _
-      (λ e. choice (λ f. Planned s (plan s f)) (flows (labelAt s (word (s .control .pc))) (pcLabel s)) _ _
+      (λ e. choice (λ f. Planned s (plan s f)) (fetchAllowed s) _ _
       (λ k. decoded (valueAt s (word (s .control .pc))) (decode (opField (valueAt s (word (s .control .pc))))))
       (λ k. faulted 2 (lit≤ tt) (lit≤ tt)))
       (λ e. faulted 1 (lit≤ tt) (lit≤ tt))
 
   -- In an upcall nothing would finish past the end tick + 1.
-  by-the-end : {d : Decision} → Planned s d → inUpcall (s .control) ≡ true → finish s d ≤ endTick s + 1
+  by-the-end : {d : Decision} → Planned s d → inUpcall (s .control) ≡ true → s .control .clock ≤ endTick s
+      → finish s d ≤ endTick s + 1
   unfolding finish
-  by-the-end (stalls u l h) v = clash v u
-  by-the-end (closes u h) v = omega arith
-  by-the-end (carries long t h) v = let k = t v in omega arith
+  by-the-end (stalls u l h) v k = clash v u
+  by-the-end (closes u h) v k = omega arith
+  by-the-end (carries long t h) v k = let m = t v in omega arith
 
   -- The limit bars only what would finish beyond it, and everything at clock = limit.
   spent : {d : Decision} → Planned s d
@@ -320,10 +324,8 @@ module _ (s : State) (typed : Typed s) where
       → inUpcall (s .control) ≡ true → s .control .clock ≤ endTick s → s .fixed .limit ≤ endTick s
   unfolding beyondLimit
   spent {d} h e u k =
-      ⊎-elim
-      (λ a. omega (arith, ltb-true (s .fixed .limit) (finish s d) a, by-the-end h u))
-      (λ a. omega (arith, eqb-true (s .control .clock) (s .fixed .limit) a))
-      (or-true (ltb (s .fixed .limit) (finish s d)) _ e)
+      let b = by-the-end h u k in
+      let o = below-or-equal (s .fixed .limit) _ (s .control .clock) _ e in ⊎-elim (λ a. omega arith) (λ a. omega arith) o
 
   -- A decision that the limit allows.
   bounded : {d : Decision} → running s ≡ true → Planned s d

@@ -2,32 +2,29 @@
 -- whole, its numbers in their ranges.
 -- Assumes nothing.
 use Prim.Native.Nat.{ℕ, _+_, _^_, _<_, _≤_, zero-le}
-use mathlib.Core.Path.{_≡_, refl, sym, ap, _∙_, subst}
-use mathlib.Core.Logic.{_⊎_, inl, inr, ⊎-elim}
+use mathlib.Core.Path.{_≡_, refl, ap, _∙_, subst}
+use mathlib.Core.Logic.{⊎-elim}
 use mathlib.Core.Bool.{Bool, true, false, _&&_, cond}
 use mathlib.Core.List.{List, [], _∷_, _++_}
-use native.Mathlib.Nat.{le-refl, lt-of-lt-of-le}
+use native.Mathlib.Nat.{lt-of-lt-of-le}
 use native.Mathlib.Omega.{arith}
-use lib.Dec.{leb, ltb, eqb, lit<, lit≤}
-use lib.ListN.{length, drop, getD, set, replicate, length-set, length-append, length-replicate, getD-replicate, length-drop, List·getD-append, List·getD-eq-default}
+use lib.Dec.{leb, ltb, lit<, lit≤}
+use lib.ListN.{length, drop, getD, replicate, length-set, length-append, length-replicate, getD-replicate, List·getD-append, List·getD-eq-default}
 use borrow.Author.Tests.{leb-true, ltb-true, ltb-false, le-leb}
-use Rattle.model.specs.declared.Pair.{Pair}
-use Rattle.model.specs.declared.Fixed.{Fixed}
 use Rattle.model.specs.declared.Control.{Control}
-use Rattle.model.specs.declared.Call.{Call}
 use Rattle.model.specs.declared.Call.the-variants.{Empty}
 use Rattle.model.specs.declared.format.Line.{Line}
 use Rattle.model.specs.declared.format.Line.the-variants.{M, G, R, W, Malformed}
-use Rattle.model.specs.Record.{Bank, Machine, State, stateOf, machineOf}
+use Rattle.model.specs.Record.{Bank, Machine, State, stateOf}
 use Rattle.model.specs.WellFormed.{isValid, endInRange, wellFormed, lentWhole}
-use Rattle.model.specs.Typed.{Typed, Below}
+use Rattle.model.specs.Typed.{Below}
 use Rattle.model.specs.Step.{running}
 use Rattle.model.specs.Text.{lines}
-use Rattle.model.specs.Load.{machineOfHeader, withGate, withRegister, withEntry, headerInRange, gateInRange, entryInRange, leastOf, Progress, Verdict, refuse, accept, tried, judge, cleared, fill, Loading, refusal, settle, loadLines, load}
+use Rattle.model.specs.Load.{machineOfHeader, withGate, withRegister, withEntry, headerInRange, gateInRange, entryInRange, leastOf, Progress, Verdict, refuse, accept, tried, judge, cleared, fill, Loading, settle, loadLines, load}
 use Rattle.model.specs.Noninterference.{Loaded}
 use Rattle.model.specs.Program.{stateOfLoad}
 use Rattle.model.proofs.Truth.{choice, either, and-iff}
-use Rattle.model.proofs.WellFormed.{FixedFit, CallsFit, none, Fit, fit, fits}
+use Rattle.model.proofs.WellFormed.{FixedFit, none, fit, fits}
 use Rattle.model.proofs.Step.{Ready, below-set}
 
 -- ---- the state while the lines are read

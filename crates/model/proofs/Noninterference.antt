@@ -7,28 +7,19 @@ pub mod Hidden
 pub mod Visible
 pub mod Paths
 pub mod Trace
-use Prim.Native.Nat.{ℕ, _≤_}
-use mathlib.Core.Path.{_≡_, refl, sym, subst}
-use mathlib.Core.Bool.{false, cond, _&&_}
+use Prim.Native.Nat.{ℕ}
+use mathlib.Core.Path.{_≡_}
+use mathlib.Core.Bool.{false}
 use native.Mathlib.Omega.{arith}
 use mathlib.Core.List.{List}
 use mathlib.Core.Bool.{true}
-use lib.Dec.{leb}
-use lib.ListN.{length}
-use borrow.Author.Tests.{leb-true}
-use Rattle.model.specs.declared.Control.{Control}
-use Rattle.model.specs.Record.{State, isUpcall, isEmpty, newest, inUpcall}
-use Rattle.model.specs.WellFormed.{lentWhole}
+use Rattle.model.specs.Record.{State, newest, inUpcall}
 use Rattle.model.specs.Load.{load}
 use Rattle.model.specs.Program.{stateOfLoad}
-use Rattle.model.specs.Seen.{LowEquivalent}
 use Rattle.model.specs.Noninterference.{Invocation, trace, atTick, reached, Provisos, Loaded, FromLoadedStates, Noninterference}
-use Rattle.model.proofs.Truth.{and-iff}
-use Rattle.model.proofs.WellFormed.{fit}
-use Rattle.model.proofs.Step.{Ready}
 use Rattle.model.proofs.Load.{loaded-ready, load-loaded}
-use Rattle.model.proofs.Noninterference.Paths.{Both, at-one-tick}
-use Rattle.model.proofs.Noninterference.Trace.{path, Arrived, arrive, trace-row}
+use Rattle.model.proofs.Noninterference.Paths.{at-one-tick}
+use Rattle.model.proofs.Noninterference.Trace.{Arrived, arrive, trace-row}
 
 -- It is in no upcall.
 loaded-outside : (s : State) → Loaded s → inUpcall (s .control) ≡ false

@@ -1,19 +1,19 @@
 -- The laws that the program's parts fit together: a load that is accepted is run without a refusal, and the state after
 -- the run is printed unless the output is too short.
 -- Assumes nothing.
-use Prim.Native.Nat.{ℕ, _≤_}
-use mathlib.Core.Path.{_≡_, refl, sym, ap, _∙_}
-use mathlib.Core.Bool.{Bool, true, false, cond, _&&_}
+use Prim.Native.Nat.{ℕ}
+use mathlib.Core.Path.{_≡_}
+use mathlib.Core.Bool.{true, cond}
 use mathlib.Core.List.{List, _++_}
 use lib.Dec.{leb}
 use lib.ListN.{length, drop}
 use borrow.Author.Tests.{le-leb}
 use Rattle.model.specs.Record.{Bank, State, machineOf}
-use Rattle.model.specs.WellFormed.{wellFormed, lentWhole}
+use Rattle.model.specs.WellFormed.{lentWhole}
 use Rattle.model.specs.Step.{run}
-use Rattle.model.specs.Answer.{Answer, answer, done, runAnswer}
+use Rattle.model.specs.Answer.{answer, done, runAnswer}
 use Rattle.model.specs.Load.{load}
-use Rattle.model.specs.Listing.{listing, Printing, notPrinted, print}
+use Rattle.model.specs.Listing.{listing, notPrinted, print}
 use Rattle.model.specs.Program.{stateOfLoad}
 use Rattle.model.proofs.WellFormed.{fits}
 use Rattle.model.proofs.Step.{Ready}

@@ -1,23 +1,19 @@
 -- The laws of the run: it ends, it is its first step and then the run, and it leaves what a step leaves.
 -- Assumes nothing.
 use Prim.Native.Nat.{ℕ, zero, suc, _+_, _-_, _<_, _≤_}
-use mathlib.Core.Path.{_≡_, refl, sym, ap, _∙_, subst}
-use mathlib.Core.Logic.{_⊎_, inl, inr, ⊎-elim}
-use mathlib.Core.Bool.{Bool, true, false, cond}
-use mathlib.Core.List.{List}
-use native.Mathlib.Nat.{add-comm, add-suc, suc-add, zero-add, add-zero, le-refl, le-trans}
-use native.Mathlib.Numerals.{add-one}
+use mathlib.Core.Path.{_≡_, refl, sym, ap, _∙_}
+use mathlib.Core.Logic.{⊎-elim}
+use mathlib.Core.Bool.{true, false}
+use native.Mathlib.Nat.{add-comm, suc-add, zero-add, le-refl, le-trans}
 use native.Mathlib.Omega.{arith}
 use lib.Dec.{eqb}
-use lib.ListN.{length, drop}
-use borrow.Author.Tests.{eqb-true, ne-eqb}
-use Rattle.model.specs.declared.Fixed.{Fixed}
+use lib.ListN.{drop}
 use Rattle.model.specs.Record.{State}
-use Rattle.model.specs.Step.{running, decide, finish, controlAfter, step, steps, run}
+use Rattle.model.specs.Step.{running, step, steps, run}
 use Rattle.model.proofs.Truth.{either}
-use Rattle.model.proofs.Writes.{Lengths, lengths}
-use Rattle.model.proofs.WellFormed.{step-fixed, step-control}
-use Rattle.model.proofs.Step.{Ready, step-ready, step-ended, step-passes, step-clock, step-lengths, step-beyond}
+use Rattle.model.proofs.Writes.{lengths}
+use Rattle.model.proofs.WellFormed.{step-fixed}
+use Rattle.model.proofs.Step.{Ready, step-ready, step-ended, step-passes, step-lengths, step-beyond}
 
 -- ---- so many steps
 

@@ -1,28 +1,27 @@
 -- The laws of one step: what it writes fits and is legal, what it leaves, and where it leaves the clock.
 -- Assumes nothing.
 use Prim.Native.Nat.{ℕ, _+_, _^_, _<_, _≤_}
-use mathlib.Core.Path.{_≡_, refl, sym, ap, _∙_, subst}
-use mathlib.Core.Logic.{_⊎_, inl, inr, ⊎-elim}
-use mathlib.Core.Bool.{Bool, true, false, cond, or-true}
+use mathlib.Core.Path.{_≡_, refl, ap, _∙_, subst}
+use mathlib.Core.Logic.{_⊎_, inl, inr}
+use mathlib.Core.Bool.{Bool, true, false, _||_, or-true}
 use mathlib.Core.List.{List}
-use native.Mathlib.Nat.{le-refl, le-trans, lt-of-lt-of-le}
+use native.Mathlib.Nat.{le-refl, lt-of-lt-of-le}
 use native.Mathlib.Omega.{arith}
 use lib.Dec.{eqb, ltb, lit<}
-use lib.ListN.{getD, set, length, drop, length-set}
+use lib.ListN.{getD, set, length, drop}
 use lib.Seq.{drop-set-lt}
 use borrow.Author.Tests.{eq-eqb}
-use Rattle.labels.specs.Label.{flows}
-use Rattle.labels.proofs.Laws.{Flows, flows-trans, valid-flows}
+use Rattle.labels.proofs.Laws.{flows-trans, valid-flows}
 use Rattle.model.specs.declared.Fixed.{Fixed}
 use Rattle.model.specs.declared.Control.{Control}
-use Rattle.model.specs.Record.{State, Location, register, word, bankOf, indexOf, valueAt, labelAt, newest, inUpcall}
+use Rattle.model.specs.Record.{State, Location, register, word, labelAt, newest, inUpcall}
 use Rattle.model.specs.Typed.{Typed, Below}
-use Rattle.model.specs.Ops.{Write, nothing, value, label, Change, write, goto, enter, openUpcall, openGate, closeGate, stop}
+use Rattle.model.specs.Ops.{Write, value, label, Change, write, goto, enter, openUpcall, openGate, closeGate, stop}
 use Rattle.model.specs.Step.{Decision, rest, spend, stall, close, carry, endTick, finish, fetch, plan, beyondLimit, inLimit, running, decide, written, causeAllowed, causeWrite, changeWrite, writeOf, changed, restored, controlAfter, apply, step}
 use Rattle.model.proofs.Truth.{choice, clash}
 use Rattle.model.proofs.Writes.{There, Lengths, lengths, set-at, written-lengths}
 use Rattle.model.proofs.Legal.{_⊑_, Inside, LegalWrite, keeps, sets, marks, LegalChange, writes, goes, enters, calls, gates, returns, stops, Legal, rests, spends, stalls, closes, carries, legal}
-use Rattle.model.proofs.WellFormed.{Fit, UpcallFit, top-upcall, step-fit, step-fixed, step-control}
+use Rattle.model.proofs.WellFormed.{Fit, top-upcall, step-fit, step-fixed, step-control}
 
 -- A state that a call is carried out on: its record is well-formed, its lists are as the types say, and the lent words and
 -- labels are each at least as long as the size.
@@ -39,7 +38,8 @@ cause-legal : (s : State) (cause : ℕ) → Fit (s .fixed) (s .control) → caus
 unfolding causeWrite causeAllowed
 cause-legal s cause f h =
     choice (LegalWrite s) (causeAllowed s) _ _
-    (λ e. sets (lit< tt) (flows-trans (valid-flows _ _ _ (f .valid)) (record { holds = e })) (omega arith))
+    (λ e. let k : s .control .pair .timing ⊑ labelAt s (register 15) = record { holds = e } in
+    sets (lit< tt) (flows-trans (valid-flows _ _ _ (f .valid)) k) (omega arith))
     (λ e. keeps)
 
 -- What a change writes is legal.
@@ -182,13 +182,30 @@ step-passes s r = rw (step-control s) (passes s (r .fit) (legal s (r .typed)))
 pub step-clock : (s : State) → step s .control .clock ≡ finish s (decide s)
 step-clock s = ap (λ c. c .clock) (step-control s) ∙ clock-after s (decide s)
 
+-- A carried-out step's clock is the clock before plus its ticks.
+pub carried-clock : (s : State) (ticks : ℕ) (c : Change) → decide s ≡ carry ticks c
+    → step s .control .clock ≡ s .control .clock + ticks
+unfolding finish
+carried-clock s ticks c e = step-clock s ∙ ap (finish s) e
+
+-- A close's is the end tick + 1.
+pub closed-clock : (s : State) (cause : ℕ) → decide s ≡ close cause → step s .control .clock ≡ endTick s + 1
+unfolding finish
+closed-clock s cause e = step-clock s ∙ ap (finish s) e
+
 -- An ended record steps to itself.
 pub step-ended : (s : State) → running s ≡ false → step s ≡ s
 unfolding step apply decide writeOf written controlAfter
 step-ended s e = rw e
 
--- At clock = limit every step of a running record spends the clock.
+-- At clock = limit everything is beyond the limit.
+at-limit : (s : State) (d : Decision) → s .control .clock ≡ s .fixed .limit → beyondLimit s d ≡ true
+unfolding beyondLimit
+at-limit s d e =
+    let late = ltb (s .fixed .limit) (finish s d) in
+    ap (λ (b : Bool). late || b) (eq-eqb (s .control .clock) (s .fixed .limit) e) ∙ or-true late
+
+-- So every step of a running record there spends the clock.
 pub spends-at-limit : (s : State) → running s ≡ true → s .control .clock ≡ s .fixed .limit → decide s ≡ spend
-unfolding decide inLimit beyondLimit
-spends-at-limit s r e =
-    rw (r, eq-eqb (s .control .clock) (s .fixed .limit) e, or-true (ltb (s .fixed .limit) (finish s (plan s (fetch s)))))
+unfolding decide inLimit
+spends-at-limit s r e = rw (r, at-limit s (plan s (fetch s)) e)

@@ -1,6 +1,6 @@
 -- Truth values: tests that passed and tests that failed, taken apart and put together.
 -- Assumes nothing.
-use mathlib.Core.Path.{_≡_, refl, sym, _∙_}
+use mathlib.Core.Path.{_≡_, refl, sym, ap, _∙_}
 use mathlib.Core.Logic.{_↔_, _⊎_, inl, inr}
 use mathlib.Core.Bool.{Bool, true, false, not, _&&_, _||_, cond, true≢false}
 
@@ -9,6 +9,11 @@ pub choice {ℓ κ} : {A : Type ℓ} (P : A → Type κ) (b : Bool) (x y : A) �
     → P (cond b x y)
 choice P true x y f g = f refl
 choice P false x y f g = g refl
+
+-- Two choices by tests of one outcome are one where what they choose is, as far as the test passes.
+pub same-choice {ℓ} : {A : Type ℓ} (b c : Bool) (x y z : A) → (b ≡ true → x ≡ y) → b ≡ c → cond b x z ≡ cond c y z
+same-choice true c x y z f e = f refl ∙ ap (λ (d : Bool). cond d y z) e
+same-choice false c x y z f e = ap (λ (d : Bool). cond d y z) e
 
 -- A test passes or fails.
 pub either : (b : Bool) → (b ≡ true) ⊎ (b ≡ false)

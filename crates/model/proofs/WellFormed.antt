@@ -1,13 +1,11 @@
 -- Well-formed records: the definition's test taken apart, and the law that a step of a well-formed record gives one.
 -- Assumes nothing.
 use Prim.Native.Nat.{ℕ, _+_, _^_, _<_, _≤_}
-use mathlib.Core.Path.{_≡_, refl, sym, subst}
-use mathlib.Core.Bool.{Bool, true, false, _&&_, cond}
+use mathlib.Core.Path.{_≡_, refl, sym}
+use mathlib.Core.Bool.{true, false, cond}
 use native.Mathlib.Omega.{arith}
-use lib.Dec.{leb, ltb, eqb, lit≤}
-use borrow.Author.Tests.{leb-true, le-leb, ltb-true, lt-ltb, eqb-true}
-use Rattle.labels.specs.Label.{flows}
-use Rattle.labels.proofs.Laws.{Flows, flows-refl, flows-trans, valid-flows}
+use borrow.Author.Tests.{leb-true, le-leb, ltb-true, lt-ltb}
+use Rattle.labels.proofs.Laws.{flows-refl, flows-trans, valid-flows}
 use Rattle.model.specs.declared.Pair.{Pair}
 use Rattle.model.specs.declared.Fixed.{Fixed}
 use Rattle.model.specs.declared.Control.{Control}
@@ -16,8 +14,8 @@ use Rattle.model.specs.declared.Call.the-variants.{Empty, Gate, Upcall}
 use Rattle.model.specs.Record.{State, machineOf, newest, inUpcall, isEmpty, isGate, isUpcall, endTickOf, pairOf}
 use Rattle.model.specs.WellFormed.{isValid, fixedInRange, endInRange, upcallWellFormed, callsWellFormed, wellFormed}
 use Rattle.model.specs.Typed.{Typed}
-use Rattle.model.specs.Ops.{Change, write, goto, enter, openUpcall, openGate, closeGate, stop}
-use Rattle.model.specs.Step.{Decision, rest, spend, stall, close, carry, endTick, running, decide, written, writeOf, restored, changed, controlAfter, apply, step}
+use Rattle.model.specs.Ops.{Change}
+use Rattle.model.specs.Step.{Decision, endTick, decide, writeOf, restored, changed, controlAfter, apply, step}
 use Rattle.model.proofs.Truth.{and-iff, clash}
 use Rattle.model.proofs.Writes.{written-fixed}
 use Rattle.model.proofs.Legal.{_⊑_, LegalChange, writes, goes, enters, calls, gates, returns, stops, Legal, rests, spends, stalls, closes, carries, legal}

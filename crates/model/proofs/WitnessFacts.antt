@@ -1,12 +1,13 @@
 -- The witnesses of specs/Witness.antt, by computation: first that the tests say what the statement says, then the tables.
+-- This file, and Facts by way of it, opens the definitions of labels, since it computes with them.
 -- Assumes nothing.
 use Prim.Native.Nat.{ℕ, zero, suc, _<_, _≤_, _^_, max}
-use mathlib.Core.Path.{_≡_, refl, sym, ap, ap₂, subst}
+use mathlib.Core.Path.{_≡_, refl, sym, ap, ap₂, _∙_, subst, subst₂}
 use mathlib.Core.Logic.{⊎-elim}
-use mathlib.Core.Bool.{Bool, true, false, not, _||_}
+use mathlib.Core.Bool.{Bool, true, false, not, _||_, or-true}
 use mathlib.Core.List.{List, [], _∷_}
 use native.Mathlib.Omega.{arith}
-use lib.Dec.{leb, ltb, eqb, lit<}
+use lib.Dec.{leb, ltb, eqb}
 use lib.Count.{leadingZeros}
 use lib.ListN.{getD}
 use borrow.Author.Tests.{ltb-true, eqb-true, eqb-false, eq-eqb, le-leb}
@@ -14,19 +15,22 @@ use Rattle.model.specs.declared.Pair.{Pair}
 use Rattle.model.specs.declared.Call.{Call}
 use Rattle.model.specs.declared.Call.the-variants.{Empty, Gate, Upcall}
 use Rattle.labels.specs.Principals.{subset, label, integrity, confidentiality, flows, join, meet, reflection, uncompromised, validPair, lowest, mayRaise, mayRelabel}
-use Rattle.model.specs.Record.{State, Location, register, word, valueAt, labelAt, isEmpty, newest, inUpcall}
+use Rattle.model.specs.Record.{State, Location, register, word, valueAt, labelAt, newest, inUpcall}
 use Rattle.model.specs.WellFormed.{fixedInRange, endInRange, upcallWellFormed, wellFormed, lentWhole}
 use Rattle.model.specs.Word.{opField, aField, bField, cField, dField, nField, decode, compute}
-use Rattle.model.specs.Typed.{Below}
 use Rattle.model.specs.Ops.{isLabel, significantBits, multiplyTicks, noGate, newPairAllowed, mayUpcall, mayCallGate, mayReturn, table}
 use Rattle.model.specs.Step.{fetch, endTick, finish, fault, attempt, beyondLimit, inLimit, running, decide, written, causeAllowed, causeWrite, writeOf, restored, changed, controlAfter, apply, step, steps, run}
 use Rattle.model.specs.Answer.{answer}
+use Rattle.model.specs.Text.{isDigit, digits, decimalFrom, wellWritten, number, field, triple, readLine, linesIn, lines}
+use Rattle.model.specs.Load.{headerInRange, gateInRange, entryInRange, leastOf, judge, cleared, fill, load}
+use Rattle.model.specs.Listing.{decimalIn, decimal, fields, line, differs, entryLine, entryLines}
+use Rattle.model.specs.Program.{stateOfLoad}
 use Rattle.model.specs.Seen.{within, exists, Seen, hidden, shown, seenAt, SeenControl, unseen, seen, seenControl, LowEquivalent}
-use Rattle.model.specs.Noninterference.{Invocation, lend, regain, answered, after, runStates, workStates, callStates, trace, final, atTick, reached, downgrades, gateCallsIn, timedFromOutside, StepsProvisos, Provisos, Loaded, SameSetting}
-use Rattle.model.specs.Witness.{each, eachLocation, allBelow, isLoaded, sameSeen, samePair, sameCall, sameControl, sameSeenControl, lowEquivalent, noDowngrade, noGateIn, timedWithin, upTo, provisos, provisosHold, qualifies, Counterexample, interrupted, oneRun, left, right, leftAt, rightAt, mainTable, downgrading, callingGate, timedBySecret, neededTable, unbrokenTable, reachedTable}
+use Rattle.model.specs.Noninterference.{Invocation, lend, regain, answered, after, runStates, workStates, callStates, trace, final, atTick, reached, downgrades, gateCallsIn, timedFromOutside, StepsProvisos, Provisos, SameSetting}
+use Rattle.model.specs.Witness.{each, eachLocation, sameSeen, samePair, sameCall, sameControl, sameSeenControl, lowEquivalent, noDowngrade, noGateIn, timedWithin, upTo, provisos, provisosHold, qualifies, textOf, Loads, Counterexample, fixedOf, usual, interrupted, oneRun, left, right, leftAt, rightAt, mainTable, downgrading, callingGate, timedBySecret, under, nothingThere, gateCalled, unbrokenTable, reachedTable}
 use Rattle.model.specs.Facts.{every}
 use Rattle.model.proofs.Truth.{either, clash, and-iff, not-iff}
-use Rattle.model.proofs.Noninterference.{from-loaded-states}
+use Rattle.model.proofs.Noninterference.{noninterference}
 
 -- ---- what passes for each
 
@@ -55,40 +59,7 @@ location-at n f e s h (word k) i =
     each-at n (λ k. f (word k)) (and-iff (each 16 (λ k. f (register k))) (each n (λ k. f (word k))) .0 e .1) k
     (omega (arith, ltb-true k (s .fixed .size) i))
 
--- ---- loaded
-
--- A list that is tested to be below k is.
-below : (k : ℕ) (xs : List ℕ) → 0 < k → allBelow k xs ≡ true → Below k xs
-unfolding Below
-below k [] h e i = h
-below k (x ∷ xs) h e zero = ltb-true x k (and-iff (ltb x k) (allBelow k xs) .0 e .0)
-below k (x ∷ xs) h e (suc i) = below k xs h (and-iff (ltb x k) (allBelow k xs) .0 e .1) i
-
--- An empty place is Empty.
-empty : (c : Call) → isEmpty c ≡ true → c ≡ Empty
-empty Empty e = refl
-empty (Gate k q) e = clash e refl
-empty (Upcall k q t) e = clash e refl
-
--- A state that is tested to be loaded is.
-pub loaded : (s : State) → isLoaded s ≡ true → Loaded s
-loaded s e =
-    let h = simp and-iff at e in
-    record {
-      wellFormed = h .0 .0 .0 .0 .0 .0 .0 .0 .0;
-      running = h .0 .0 .0 .0 .0 .0 .0 .0 .1;
-      clock = eqb-true _ _ (h .0 .0 .0 .0 .0 .0 .0 .1);
-      first = empty _ (h .0 .0 .0 .0 .0 .0 .1);
-      second = empty _ (h .0 .0 .0 .0 .0 .1);
-      lent = h .0 .0 .0 .0 .1;
-      typed =
-          record {
-            values = below (2 ^ 32) _ (lit< tt) (h .0 .0 .0 .1);
-            words = λ k i. unfold Below in below (2 ^ 32) (s .memory .values) (lit< tt) (h .0 .0 .1) k;
-            registers = eqb-true _ _ (h .0 .1);
-            labels = eqb-true _ _ (h .1);
-          };
-    }
+-- ---- settings
 
 -- States of one fixed part have one setting.
 pub setting : (s t : State) → s .fixed ≡ t .fixed → SameSetting s t
@@ -255,32 +226,41 @@ meets ℓ k s xs e =
 
 -- ---- the theorem applied to what the tests say
 
--- Two machines of one fixed part that qualify, and are alike when loaded, are alike at k.
-pub alike-at : (ℓ k : ℕ) (s t : State) (qs rs : List Invocation) → s .fixed ≡ t .fixed → lowEquivalent ℓ s t ≡ true
-    → qualifies ℓ k s qs ≡ true → qualifies ℓ k t rs ≡ true → LowEquivalent ℓ (atTick k s (trace qs s)) (atTick k t (trace rs t))
-alike-at ℓ k s t qs rs f e g h =
+-- From the texts of two states: the third demand, of the states.
+from-texts : (ℓ k : ℕ) (s t : State) → Loads s → Loads t → SameSetting s t → LowEquivalent ℓ s t → (qs rs : List Invocation)
+    → Provisos ℓ k s (trace qs s) → Provisos ℓ k t (trace rs t) → reached k s (trace qs s) ≡ true
+    → reached k t (trace rs t) ≡ true → LowEquivalent ℓ (atTick k s (trace qs s)) (atTick k t (trace rs t))
+from-texts ℓ k s t l m =
+    subst₂
+    (λ (x y : State).
+    SameSetting x y → LowEquivalent ℓ x y → (qs rs : List Invocation) → Provisos ℓ k x (trace qs x) → Provisos ℓ k y (trace rs y)
+    → reached k x (trace qs x) ≡ true → reached k y (trace rs y) ≡ true
+    → LowEquivalent ℓ (atTick k x (trace qs x)) (atTick k y (trace rs y)))
+    (ap stateOfLoad l) (ap stateOfLoad m)
+    (noninterference ℓ k (textOf s) (textOf t) (s .memory) (t .memory) (ap (λ a. a .number) l) (ap (λ a. a .number) m))
+
+-- Two machines of one fixed part that load, start alike and qualify are alike at k.
+pub alike-at : (ℓ k : ℕ) (s t : State) (qs rs : List Invocation) → Loads s → Loads t → s .fixed ≡ t .fixed
+    → lowEquivalent ℓ s t ≡ true → qualifies ℓ k s qs ≡ true → qualifies ℓ k t rs ≡ true
+    → LowEquivalent ℓ (atTick k s (trace qs s)) (atTick k t (trace rs t))
+alike-at ℓ k s t qs rs l m f e g h =
     let a = and-iff _ (reached k s (trace qs s)) .0 g in
     let b = and-iff _ (reached k t (trace rs t)) .0 h in
-    let c = and-iff (isLoaded s) _ .0 (a .0) in
-    let d = and-iff (isLoaded t) _ .0 (b .0) in
-    from-loaded-states ℓ k s t (loaded s (c .0)) (loaded t (d .0)) (setting s t f) (low ℓ s t e) qs rs
-    (meets ℓ k s (trace qs s) (c .1)) (meets ℓ k t (trace rs t) (d .1)) (a .1) (b .1)
+    from-texts ℓ k s t l m (setting s t f) (low ℓ s t e) qs rs
+    (meets ℓ k s (trace qs s) (a .0)) (meets ℓ k t (trace rs t) (b .0)) (a .1) (b .1)
 
--- Two machines of one fixed part that are loaded, start alike and reach k, and are not alike there.
-pub counterexample : (ℓ k : ℕ) (s t : State) (qs : List Invocation) (met : List Bool) → s .fixed ≡ t .fixed
-    → every (isLoaded s ∷ isLoaded t ∷ lowEquivalent ℓ s t ∷ reached k s (trace qs s) ∷ reached k t (trace qs t) ∷ not (lowEquivalent ℓ (atTick k s (trace qs s)) (atTick k t (trace qs t))) ∷ []) ≡ true
+-- Two machines that load, start alike and reach k, and are not alike there.
+pub counterexample : (ℓ k : ℕ) (s t : State) (qs : List Invocation) (met : List Bool) → Loads s → Loads t
+    → every (lowEquivalent ℓ s t ∷ reached k s (trace qs s) ∷ reached k t (trace qs t) ∷ not (lowEquivalent ℓ (atTick k s (trace qs s)) (atTick k t (trace qs t))) ∷ []) ≡ true
     → provisos ℓ k s (trace qs s) ≡ met → provisos ℓ k t (trace qs t) ≡ met → Counterexample ℓ k s t qs met
-counterexample ℓ k s t qs met f e p q =
-    let a = and-iff (isLoaded s) _ .0 e in
-    let b = and-iff (isLoaded t) _ .0 (a .1) in
-    let c = and-iff (lowEquivalent ℓ s t) _ .0 (b .1) in
+counterexample ℓ k s t qs met l m e p q =
+    let c = and-iff (lowEquivalent ℓ s t) _ .0 e in
     let d = and-iff (reached k s (trace qs s)) _ .0 (c .1) in
     let g = and-iff (reached k t (trace qs t)) _ .0 (d .1) in
     let h = and-iff (not (lowEquivalent ℓ (atTick k s (trace qs s)) (atTick k t (trace qs t)))) true .0 (g .1) in
     record {
-      loadedOne = loaded s (a .0);
-      loadedTwo = loaded t (b .0);
-      setting = setting s t f;
+      loadsOne = l;
+      loadsTwo = m;
       low = low ℓ s t (c .0);
       metOne = p;
       metTwo = q;
@@ -292,8 +272,8 @@ counterexample ℓ k s t qs met f e p q =
 -- ---- the tables
 
 -- All that a table computes with: the definitions of labels too. Who says `unfolding computing` opens each of them.
-abbrev computing : Bool
-unfolding subset label integrity confidentiality flows join meet reflection uncompromised validPair lowest mayRaise mayRelabel newest inUpcall valueAt labelAt fixedInRange endInRange upcallWellFormed wellFormed lentWhole opField aField bField cField dField nField decode compute isLabel significantBits multiplyTicks newPairAllowed mayUpcall mayCallGate mayReturn table fetch endTick finish fault attempt beyondLimit inLimit running decide written causeAllowed causeWrite writeOf restored changed controlAfter apply step steps run answer within exists seenAt seenControl lend regain answered after runStates workStates callStates trace final atTick reached downgrades gateCallsIn timedFromOutside sameSeen samePair sameCall sameControl sameSeenControl leadingZeros
+unfoldable pub computing : Bool
+unfolding subset label integrity confidentiality flows join meet reflection uncompromised validPair lowest mayRaise mayRelabel newest inUpcall valueAt labelAt fixedInRange endInRange upcallWellFormed wellFormed lentWhole opField aField bField cField dField nField decode compute isLabel significantBits multiplyTicks newPairAllowed mayUpcall mayCallGate mayReturn table fetch endTick finish fault attempt beyondLimit inLimit running decide written causeAllowed causeWrite writeOf restored changed controlAfter apply step steps run answer within exists seenAt seenControl lend regain answered after runStates workStates callStates trace final atTick reached downgrades gateCallsIn timedFromOutside sameSeen samePair sameCall sameControl sameSeenControl leadingZeros isDigit digits decimalFrom wellWritten number field triple readLine linesIn lines headerInRange gateInRange entryInRange leastOf judge cleared fill load decimalIn decimal fields line differs entryLine entryLines
 computing = true
 
 -- The two machines of the main witness differ as their table says, at a sound label and at one that isn't.
@@ -304,42 +284,64 @@ main-holds = refl
 -- The theorem, applied to them: in the upcall, where they differ, and at the last tick.
 pub witness-away : LowEquivalent 240 (leftAt 240 5) (rightAt 240 5)
 unfolding computing
-witness-away = alike-at 240 5 (left 240) (right 240) interrupted oneRun refl refl refl refl
+witness-away = alike-at 240 5 (left 240) (right 240) interrupted oneRun refl refl refl refl refl refl
 
 pub witness-last : LowEquivalent 240 (leftAt 240 14) (rightAt 240 14)
 unfolding computing
-witness-last = alike-at 240 14 (left 240) (right 240) interrupted oneRun refl refl refl refl
+witness-last = alike-at 240 14 (left 240) (right 240) interrupted oneRun refl refl refl refl refl refl
 
 pub witness-away-unsound : LowEquivalent 18 (leftAt 18 5) (rightAt 18 5)
 unfolding computing
-witness-away-unsound = alike-at 18 5 (left 18) (right 18) interrupted oneRun refl refl refl refl
+witness-away-unsound = alike-at 18 5 (left 18) (right 18) interrupted oneRun refl refl refl refl refl refl
 
 pub witness-last-unsound : LowEquivalent 18 (leftAt 18 14) (rightAt 18 14)
 unfolding computing
-witness-last-unsound = alike-at 18 14 (left 18) (right 18) interrupted oneRun refl refl refl refl
+witness-last-unsound = alike-at 18 14 (left 18) (right 18) interrupted oneRun refl refl refl refl refl refl
 
 -- Without the first proviso, the second, the third, the theorem would be false.
-pub downgrade-needed : Counterexample 240 2 (downgrading 0) (downgrading 1) oneRun (false ∷ true ∷ true ∷ [])
+pub downgrade-needed : SameSetting (downgrading 0) (downgrading 1) × Counterexample 240 2 (downgrading 0) (downgrading 1) oneRun (false ∷ true ∷ true ∷ [])
 unfolding computing
-downgrade-needed = counterexample 240 2 (downgrading 0) (downgrading 1) oneRun _ refl refl refl refl
+downgrade-needed = (setting (downgrading 0) (downgrading 1) refl, counterexample 240 2 (downgrading 0) (downgrading 1) oneRun _ refl refl refl refl refl)
 
-pub gate-needed : Counterexample 240 4 (callingGate 0) (callingGate 1) oneRun (true ∷ false ∷ true ∷ [])
+pub gate-needed : SameSetting (callingGate 0) (callingGate 1) × Counterexample 240 4 (callingGate 0) (callingGate 1) oneRun (true ∷ false ∷ true ∷ [])
 unfolding computing
-gate-needed = counterexample 240 4 (callingGate 0) (callingGate 1) oneRun _ refl refl refl refl
+gate-needed = (setting (callingGate 0) (callingGate 1) refl, counterexample 240 4 (callingGate 0) (callingGate 1) oneRun _ refl refl refl refl refl)
 
-pub timing-needed : Counterexample 240 2 (timedBySecret 0) (timedBySecret 1) oneRun (true ∷ true ∷ false ∷ [])
+pub timing-needed : SameSetting (timedBySecret 0) (timedBySecret (2 ^ 31)) × Counterexample 240 5 (timedBySecret 0) (timedBySecret (2 ^ 31)) oneRun (true ∷ true ∷ false ∷ [])
 unfolding computing
-timing-needed = counterexample 240 2 (timedBySecret 0) (timedBySecret 1) oneRun _ refl refl refl refl
+timing-needed = (setting (timedBySecret 0) (timedBySecret (2 ^ 31)) refl, counterexample 240 5 (timedBySecret 0) (timedBySecret (2 ^ 31)) oneRun _ refl refl refl refl refl)
 
--- Nor without equal settings, or at the last clock itself.
-pub needed-hold : every neededTable ≡ true
+-- Nor without equal size, limit, error pc, number of gates, gates: the two machines differ in that alone.
+pub size-needed : Counterexample 240 1 (under usual nothingThere) (under (fixedOf 11 60 11 3 2) nothingThere) oneRun (true ∷ true ∷ true ∷ [])
 unfolding computing
-needed-hold = refl
+size-needed = counterexample 240 1 (under usual nothingThere) (under (fixedOf 11 60 11 3 2) nothingThere) oneRun _ refl refl refl refl refl
+
+pub limit-needed : Counterexample 240 1 (under usual nothingThere) (under (fixedOf 12 1 11 3 2) nothingThere) oneRun (true ∷ true ∷ true ∷ [])
+unfolding computing
+limit-needed = counterexample 240 1 (under usual nothingThere) (under (fixedOf 12 1 11 3 2) nothingThere) oneRun _ refl refl refl refl refl
+
+pub errorpc-needed : Counterexample 240 1 (under usual nothingThere) (under (fixedOf 12 60 10 3 2) nothingThere) oneRun (true ∷ true ∷ true ∷ [])
+unfolding computing
+errorpc-needed = counterexample 240 1 (under usual nothingThere) (under (fixedOf 12 60 10 3 2) nothingThere) oneRun _ refl refl refl refl refl
+
+pub count-needed : Counterexample 240 4 (under usual gateCalled) (under (fixedOf 12 60 11 0 2) gateCalled) oneRun (true ∷ true ∷ true ∷ [])
+unfolding computing
+count-needed = counterexample 240 4 (under usual gateCalled) (under (fixedOf 12 60 11 0 2) gateCalled) oneRun _ refl refl refl refl refl
+
+pub gates-needed : Counterexample 240 4 (under usual gateCalled) (under (fixedOf 12 60 11 3 3) gateCalled) oneRun (true ∷ true ∷ true ∷ [])
+unfolding computing
+gates-needed = counterexample 240 4 (under usual gateCalled) (under (fixedOf 12 60 11 3 3) gateCalled) oneRun _ refl refl refl refl refl
 
 -- What breaks no proviso.
 pub unbroken-hold : every unbrokenTable ≡ true
 unfolding computing
 unbroken-hold = refl
+
+-- Every tick after an end is reached.
+pub ended-reached : (k : ℕ) (s : State) (xs : List State) → running (final s xs) ≡ false → reached k s xs ≡ true
+unfolding reached
+ended-reached k s xs e =
+    let above = ltb k (final s xs .control .clock) in ap (λ (b : Bool). above || not b) e ∙ or-true above
 
 -- What is reached.
 pub reached-hold : every reachedTable ≡ true

@@ -1,20 +1,17 @@
 -- What a write leaves: the record but for one value or label, the lengths, and every other location.
 -- Assumes nothing.
-use Prim.Native.Nat.{ℕ, _<_, _≤_}
-use mathlib.Core.Path.{_≡_, refl, sym, ap, _∙_, subst}
-use mathlib.Core.Logic.{_⊎_, inl, inr, ⊎-elim}
-use mathlib.Core.Bool.{Bool, true, false, cond}
+use Prim.Native.Nat.{ℕ, _<_}
+use mathlib.Core.Path.{_≡_, refl, sym, subst}
+use mathlib.Core.Logic.{⊎-elim}
+use mathlib.Core.Bool.{Bool, false, cond}
 use mathlib.Core.List.{List}
-use native.Mathlib.Nat.{lt-of-lt-of-le}
 use lib.Dec.{eqb}
 use lib.ListN.{getD, set, length, length-set}
 use lib.Seq.{getD-set-same, getD-set-other}
 use borrow.Author.Tests.{eqb-true, eqb-false}
-use Rattle.model.specs.declared.Fixed.{Fixed}
-use Rattle.model.specs.declared.Control.{Control}
-use Rattle.model.specs.Record.{Bank, State, Location, register, word, bankOf, indexOf, valueAt, labelAt}
+use Rattle.model.specs.Record.{State, Location, register, word, bankOf, indexOf, valueAt, labelAt}
 use Rattle.model.specs.Ops.{Write, nothing, value, label}
-use Rattle.model.specs.Step.{written, setValue, setLabelAt, onLocation}
+use Rattle.model.specs.Step.{written}
 use Rattle.model.proofs.Truth.{either}
 
 -- Two locations are one.

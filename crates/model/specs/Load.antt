@@ -2,15 +2,11 @@
 -- leaves the lent words and labels; an accepted text sets all that lie below the size.
 -- Assumes nothing.
 use Prim.Native.Nat.{ℕ, _+_, _^_}
-use mathlib.Core.Bool.{Bool, true, false, _&&_, cond}
+use mathlib.Core.Bool.{Bool, true, _&&_, cond}
 use mathlib.Core.List.{List, [], _∷_, _++_}
 use lib.Dec.{leb, ltb, eqb}
 use lib.ListN.{length, drop, set, replicate}
 use Rattle.labels.specs.Label.{lowest}
-use Rattle.model.specs.declared.Pair.{Pair}
-use Rattle.model.specs.declared.CallGate.{CallGate}
-use Rattle.model.specs.declared.Fixed.{Fixed}
-use Rattle.model.specs.declared.Control.{Control}
 use Rattle.model.specs.declared.Call.the-variants.{Empty}
 use Rattle.model.specs.declared.format.Line.{Line}
 use Rattle.model.specs.declared.format.Line.the-variants.{M, G, R, W, Malformed}

@@ -2,13 +2,12 @@
 -- nothing, and says what would happen and at which clock that would finish. The second applies the decision.
 -- Assumes nothing.
 use Prim.Native.Nat.{ℕ, zero, suc, _+_, _-_}
-use mathlib.Core.Bool.{Bool, true, false, not, _&&_, _||_, cond}
+use mathlib.Core.Bool.{Bool, _&&_, _||_, cond}
 use mathlib.Core.Option.{Option, none, some}
 use lib.Dec.{ltb, eqb}
 use lib.ListN.{set}
 use Rattle.labels.specs.Label.{flows}
 use Rattle.model.specs.declared.Pair.{Pair}
-use Rattle.model.specs.declared.CallGate.{CallGate}
 use Rattle.model.specs.declared.Control.{Control}
 use Rattle.model.specs.declared.Call.{Call}
 use Rattle.model.specs.declared.Call.the-variants.{Empty, Gate, Upcall}
@@ -28,12 +27,16 @@ abbrev pub known : ℕ → Option Op → Fetched
 known w none = failed 3
 known w (some op) = fetched w op
 
+-- The label of the word at the pc flows to p.
+abbrev pub fetchAllowed : State → Bool
+fetchAllowed s = flows (labelAt s (word (s .control .pc))) (s .control .pair .pc)
+
 -- Fetch fails when the pc is not below the size (why 1), the word's label doesn't flow to p (2), or the op is unknown
 -- (3), tried in that order.
 unfoldable pub fetch : State → Fetched
 fetch s =
     cond (ltb (s .control .pc) (s .fixed .size))
-    (cond (flows (labelAt s (word (s .control .pc))) (s .control .pair .pc))
+    (cond (fetchAllowed s)
     (known (valueAt s (word (s .control .pc))) (decode (opField (valueAt s (word (s .control .pc))))))
     (failed 2))
     (failed 1)
@@ -53,13 +56,16 @@ pub data Decision : Type 0 where
 unfoldable pub endTick : State → ℕ
 endTick s = endTickOf (newest (s .control))
 
--- The clock that a decision leaves: the clock and the ticks; where it closes an upcall the end tick + 1, one tick past
--- its time (a departure from the source).
+-- Closing an upcall finishes at its end tick + 1, one tick past its time (a departure from the source).
+abbrev pub closingTick : State → ℕ
+closingTick s = endTick s + 1
+
+-- The clock that a decision leaves: the clock and the ticks, or where it closes an upcall the tick for that.
 unfoldable pub finish : State → Decision → ℕ
 finish s rest = s .control .clock
 finish s spend = s .fixed .limit
 finish s (stall why) = s .control .clock
-finish s (close cause) = endTick s + 1
+finish s (close cause) = closingTick s
 finish s (carry ticks change) = s .control .clock + ticks
 
 -- A failed fetch closes an upcall with cause 3. Outside one it sets the pc to the error pc in 1 tick, or where the pc
@@ -201,7 +207,7 @@ unfoldable pub controlAfter : State → Decision → Control
 controlAfter s rest = s .control
 controlAfter s spend = ended (s .control) (s .fixed .limit) 2 0
 controlAfter s (stall why) = ended (s .control) (s .control .clock) 3 why
-controlAfter s (close cause) = restored (s .control) (endTick s + 1)
+controlAfter s (close cause) = restored (s .control) (closingTick s)
 controlAfter s (carry ticks change) = changed (s .control) (s .control .clock + ticks) change
 
 -- The state with another control.

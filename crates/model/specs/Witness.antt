@@ -1,25 +1,27 @@
 -- Witnesses for the third demand: states and sequences of calls that are small enough to compute with. They show that the
--- theorem's hypotheses are met by machines that differ, that without any one of the provisos it would be false, and that no
--- proviso is wider than the paper's. proofs/WitnessFacts.antt has the checker compute them.
+-- theorem's hypotheses are met by machines that differ, that without any one of the provisos or of the equal settings it would
+-- be false, and that no proviso is wider than the paper's. proofs/WitnessFacts.antt has the checker compute them.
 -- Assumes nothing.
-use Prim.Native.Nat.{ℕ, zero, suc, _+_, _*_, _^_, max}
+use Prim.Native.Nat.{ℕ, zero, suc, _+_, _-_, _*_, _^_, max}
 use mathlib.Core.Path.{_≡_}
 use mathlib.Core.Bool.{Bool, true, false, not, _&&_, _||_}
 use mathlib.Core.List.{List, [], _∷_, _++_}
-use lib.Dec.{leb, ltb, eqb}
-use lib.ListN.{length, replicate}
+use lib.Dec.{leb, eqb}
+use lib.ListN.{length, take, replicate}
 use Rattle.labels.specs.Label.{uncompromised, lowest}
 use Rattle.model.specs.declared.Pair.{Pair}
+use Rattle.model.specs.declared.CallGate.{CallGate}
 use Rattle.model.specs.declared.Fixed.{Fixed}
 use Rattle.model.specs.declared.Control.{Control}
 use Rattle.model.specs.declared.Call.{Call}
 use Rattle.model.specs.declared.Call.the-variants.{Empty, Gate, Upcall}
 use Rattle.model.specs.Record.{Bank, State, Location, register, word, machineOf, valueAt, labelAt, isEmpty, inUpcall}
-use Rattle.model.specs.WellFormed.{wellFormed, lentWhole}
 use Rattle.model.specs.Ops.{noGate, mayCallGate}
 use Rattle.model.specs.Step.{running, decide, moved, opened, ended, step}
+use Rattle.model.specs.Load.{load}
+use Rattle.model.specs.Listing.{line, entryLines}
 use Rattle.model.specs.Seen.{within, Seen, hidden, shown, seenAt, SeenControl, unseen, seen, seenControl, LowEquivalent}
-use Rattle.model.specs.Noninterference.{Kind, stepCall, runCall, whole, part, Invocation, trace, final, atTick, reached, downgrades, callsGate, gateCallsIn, timedFromOutside, Loaded, SameSetting}
+use Rattle.model.specs.Noninterference.{Kind, stepCall, runCall, whole, part, Invocation, trace, final, atTick, reached, downgrades, callsGate, gateCallsIn, timedFromOutside}
 use Rattle.model.specs.Facts.{wordOf, end, stop, every}
 
 -- ---- the terms of the statement, as tests
@@ -32,18 +34,6 @@ each (suc k) f = f k && each k f
 -- A test passes for the sixteen registers and the words below n.
 abbrev pub eachLocation : ℕ → (Location → Bool) → Bool
 eachLocation n f = each 16 (λ k. f (register k)) && each n (λ k. f (word k))
-
--- Every number of the list is below k.
-abbrev pub allBelow : ℕ → List ℕ → Bool
-allBelow k [] = true
-allBelow k (x ∷ xs) = ltb x k && allBelow k xs
-
--- A state as an accepted load leaves it.
-abbrev pub isLoaded : State → Bool
-isLoaded s =
-    wellFormed (machineOf s) && running s && eqb (s .control .clock) 0 && isEmpty (s .control .first) && isEmpty (s .control .second)
-    && lentWhole (s .fixed) (s .memory .values) (s .memory .labels) && allBelow (2 ^ 32) (s .registers .values)
-    && allBelow (2 ^ 32) (s .memory .values) && eqb (length (s .registers .values)) 16 && eqb (length (s .registers .labels)) 16
 
 -- The same is seen of a location.
 unfoldable pub sameSeen : Seen → Seen → Bool
@@ -116,16 +106,36 @@ provisos ℓ k s xs =
 abbrev pub provisosHold : ℕ → ℕ → State → List State → Bool
 provisosHold ℓ k s xs = every (provisos ℓ k s xs)
 
--- What the theorem asks of each machine: it is loaded, meets the provisos up to k and reaches k.
+-- What the theorem asks of each sequence: it meets the provisos up to k and reaches k.
 abbrev pub qualifies : ℕ → ℕ → State → List Invocation → Bool
-qualifies ℓ k s qs = isLoaded s && provisosHold ℓ k s (trace qs s) && reached k s (trace qs s)
+qualifies ℓ k s qs = provisosHold ℓ k s (trace qs s) && reached k s (trace qs s)
 
--- The theorem without some proviso would be false: two machines that meet its other hypotheses, each getting the calls qs,
--- and are not alike at k. The list says which of the three provisos hold, for either machine.
+-- ---- the text of a state
+
+-- The G lines of the first n gates.
+abbrev pub gateLines : ℕ → List CallGate → List ℕ
+gateLines zero gs = []
+gateLines (suc n) [] = []
+gateLines (suc n) (g ∷ gs) = line 71 (g .entry ∷ g .pair .pc ∷ g .pair .timing ∷ []) ++ gateLines n gs
+
+-- The text that describes a state at clock 0 with no open call.
+abbrev pub textOf : State → List ℕ
+textOf s =
+    line 77
+    (s .fixed .size ∷ s .fixed .errorpc ∷ s .control .pc ∷ s .control .pair .pc ∷ s .control .pair .timing ∷ s .fixed .limit ∷ [])
+    ++ gateLines (s .fixed .count) (s .fixed .gates) ++ entryLines 82 (s .registers) 0 16
+    ++ entryLines 87 (s .memory) 0 (s .fixed .size)
+
+-- Load accepts that text, lent the state's own memory, and leaves the state.
+abbrev pub Loads : State → Type 0
+Loads s =
+    load (textOf s) (s .memory) ≡ record { number = 0; line = 0; machine = machineOf s; memory = s .memory }
+
+-- The theorem without some hypothesis would be false: two machines that are loaded and start alike, each getting the calls
+-- qs, reach k and are not alike there. The list says which of the three provisos hold, for either machine.
 pub record Counterexample (ℓ k : ℕ) (s t : State) (qs : List Invocation) (met : List Bool) : Type 0 where
-  pub loadedOne : Loaded s
-  pub loadedTwo : Loaded t
-  pub setting : SameSetting s t
+  pub loadsOne : Loads s
+  pub loadsTwo : Loads t
   pub low : LowEquivalent ℓ s t
   pub metOne : provisos ℓ k s (trace qs s) ≡ met
   pub metTwo : provisos ℓ k t (trace qs t) ≡ met
@@ -156,8 +166,12 @@ fixedOf size limit errorpc count entry =
       errorpc = errorpc;
       count = count;
       gates =
-          record { entry = entry; pair = twice 240 } ∷ record { entry = 3; pair = twice 240 } ∷ record { entry = 2; pair = twice 255 }
-          ∷ replicate 5 noGate;
+          take count
+          (record { entry = entry; pair = twice 240 }
+          ∷ record { entry = 3; pair = twice 240 }
+          ∷ record { entry = 2; pair = twice 255 }
+          ∷ [])
+          ++ replicate (8 - count) noGate;
     }
 
 -- The usual one.
@@ -296,10 +310,6 @@ mainFacts ℓ =
     ∷ finished ℓ (rightAt ℓ 14)
     ∷ []
 
--- What the theorem asks of them at tick k.
-abbrev pub mainQualify : ℕ → ℕ → List Bool
-mainQualify ℓ k = lowEquivalent ℓ (left ℓ) (right ℓ) ∷ qualifies ℓ k (left ℓ) interrupted ∷ qualifies ℓ k (right ℓ) oneRun ∷ []
-
 -- At 240, which is sound, and at 18, which isn't.
 abbrev pub mainTable : List Bool
 mainTable = uncompromised 240 ∷ not (uncompromised 18) ∷ every (mainFacts 240) ∷ every (mainFacts 18) ∷ []
@@ -322,27 +332,21 @@ callingGate = trialOf (twice 255) (wordOf 20 0 5 0 ∷ 0 ∷ stop ∷ stop ∷ [
 abbrev pub timedBySecret : ℕ → State
 timedBySecret = trialOf (record { pc = 240; timing = 255 }) (wordOf 8 6 5 (5 * 2 ^ 12) ∷ stop ∷ [])
 
--- Two machines that run the same program under two settings qualify and start alike, but are not alike at k.
-abbrev pub settingTells : ℕ → List ℕ → Fixed → Fixed → Bool
-settingTells k program f g =
-    let s = machine f (begin (twice 240)) program (holding 240 0) 0 in
-    let t = machine g (begin (twice 240)) program (holding 240 0) 0 in
-    qualifies 240 k s oneRun && qualifies 240 k t oneRun && lowEquivalent 240 s t
-    && not (lowEquivalent 240 (atTick k s (trace oneRun s)) (atTick k t (trace oneRun t)))
+-- A gate call to the first gate.
+abbrev pub gateIn : ℕ
+gateIn = wordOf 20 0 0 0
 
--- With no program, whose fetch fails, the size, the limit and the error pc tell; with a gate call, the gates do. And at the
--- last clock of a sequence that has not ended, one is not yet where another comes with no tick.
-abbrev pub neededTable : List Bool
-neededTable =
-    settingTells 1 [] usual (fixedOf 11 60 11 3 2)
-    ∷ settingTells 1 [] usual (fixedOf 12 1 11 3 2)
-    ∷ settingTells 1 [] usual (fixedOf 12 60 10 3 2)
-    ∷ settingTells 4 (wordOf 20 0 0 0 ∷ []) usual (fixedOf 12 60 11 0 2)
-    ∷ settingTells 4 (wordOf 20 0 0 0 ∷ []) usual (fixedOf 12 60 11 3 3)
-    ∷ (let s = trialOf (twice 240) [] 0 in
-    not (reached 1 s (trace (stepping 1) s)) && eqb (final s (trace (stepping 1) s) .control .clock) 1
-    && not (lowEquivalent 240 (atTick 1 s (trace (stepping 1) s)) (atTick 1 s (trace oneRun s))))
-    ∷ []
+-- A machine with a setting of its own and that program, for the label 240.
+abbrev pub under : Fixed → List ℕ → State
+under f program = machine f (begin (twice 240)) program (holding 240 0) 0
+
+-- No program: its fetch fails, which shows the size, the limit and the error pc.
+abbrev pub nothingThere : List ℕ
+nothingThere = []
+
+-- A gate call, which shows the gates.
+abbrev pub gateCalled : List ℕ
+gateCalled = gateIn ∷ []
 
 -- ---- what breaks no proviso
 
@@ -362,10 +366,6 @@ goesFrom s p q = eqb (s .control .pair .pc) p && eqb (step s .control .pair .pc)
 -- A machine with that control and one word of program.
 abbrev pub at : Control → ℕ → State
 at c w = machine usual c (w ∷ []) (holding 240 0) 0
-
--- A gate call to the first gate.
-abbrev pub gateIn : ℕ
-gateIn = wordOf 20 0 0 0
 
 -- A gate call to the third gate.
 abbrev pub gateOut : ℕ
@@ -400,7 +400,7 @@ unbrokenTable =
 
 -- ---- what is reached
 
--- Ticks that are reached, and one that isn't.
+-- Ticks that are reached, and two that aren't.
 abbrev pub reachedTable : List Bool
 reachedTable =
     -- every tick after an end
@@ -413,4 +413,8 @@ reachedTable =
     ∷ eqb (final (left 240) (trace (stepping 3) (left 240)) .control .clock) 4
     ∷ reached 3 (left 240) (trace (stepping 3) (left 240))
     ∷ not (reached 4 (left 240) (trace (stepping 3) (left 240)))
+    -- at the last clock of a sequence that has not ended, one is not yet where another comes with no tick
+    ∷ (let s = under usual nothingThere in
+    eqb (final s (trace (stepping 1) s) .control .clock) 1 && not (reached 1 s (trace (stepping 1) s))
+    && not (lowEquivalent 240 (atTick 1 s (trace (stepping 1) s)) (atTick 1 s (trace oneRun s))))
     ∷ []

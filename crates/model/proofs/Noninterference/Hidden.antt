@@ -2,27 +2,26 @@
 -- the pc label within, and then it is back at the end tick + 1 with a control that its open calls alone decide.
 -- Assumes nothing.
 use Prim.Native.Nat.{ℕ, _+_, _<_, _≤_}
-use mathlib.Core.Path.{_≡_, refl, sym, ap, _∙_, subst}
-use mathlib.Core.Logic.{_⊎_, inl, inr, ⊎-elim}
-use mathlib.Core.Bool.{Bool, true, false, not, _&&_, cond}
+use mathlib.Core.Path.{_≡_, refl, sym, ap, _∙_}
+use mathlib.Core.Logic.{_⊎_, inl, inr}
+use mathlib.Core.Bool.{true, false, _&&_, cond}
 use native.Mathlib.Nat.{le-refl}
 use native.Mathlib.Omega.{arith}
 use lib.Dec.{leb, eqb}
 use borrow.Author.Tests.{eqb-true}
-use Rattle.labels.specs.Label.{flows}
-use Rattle.labels.proofs.Laws.{Flows, not-flows}
+use Rattle.labels.proofs.Laws.{not-flows}
 use Rattle.model.specs.declared.Pair.{Pair}
 use Rattle.model.specs.declared.Control.{Control}
 use Rattle.model.specs.declared.Call.{Call}
 use Rattle.model.specs.declared.Call.the-variants.{Empty, Gate, Upcall}
 use Rattle.model.specs.Record.{State, Location, register, word, valueAt, labelAt, isEmpty, isGate, isUpcall, returnOf, pairOf, endTickOf, newest, inUpcall}
-use Rattle.model.specs.WellFormed.{isValid, endInRange}
-use Rattle.model.specs.Ops.{Write, nothing, value, label, Change, write, goto, enter, openUpcall, openGate, closeGate, stop}
-use Rattle.model.specs.Step.{Decision, rest, spend, stall, close, carry, endTick, finish, running, decide, written, writeOf, withControl, restored, changed, controlAfter, apply, step}
+use Rattle.model.specs.WellFormed.{endInRange}
+use Rattle.model.specs.Ops.{Write, Change}
+use Rattle.model.specs.Step.{Decision, carry, endTick, finish, running, decide, written, writeOf, withControl, restored, changed, controlAfter, apply, step}
 use Rattle.model.specs.Seen.{within, exists, seenAt}
 use Rattle.model.specs.Noninterference.{callsGate, gateCallsIn, StepProvisos}
-use Rattle.model.proofs.Truth.{either, clash, and-iff}
-use Rattle.model.proofs.Writes.{There, written-fixed}
+use Rattle.model.proofs.Truth.{clash}
+use Rattle.model.proofs.Writes.{written-fixed}
 use Rattle.model.proofs.Legal.{_⊑_, LegalWrite, keeps, sets, marks, LegalChange, writes, goes, enters, calls, gates, returns, stops, Legal, rests, spends, stalls, closes, carries, legal}
 use Rattle.model.proofs.WellFormed.{Fit, CallsFit, none, gate, upcall, both, step-control}
 use Rattle.model.proofs.Step.{Ready, there, step-write, step-clock, end-tick-late}

@@ -1,24 +1,23 @@
 -- Two machines, each taking as many steps as bring it to one tick: they are low-equivalent there. The relation between
--- the two, while they go, is that of five cases.
+-- the two, while they go, is that of four cases.
 -- Assumes nothing.
-use Prim.Native.Nat.{ℕ, zero, suc, _+_, _<_, _≤_, zero-le}
+use Prim.Native.Nat.{ℕ, zero, suc, _+_, _<_, _≤_}
 use mathlib.Core.Path.{_≡_, refl, sym, ap, ap₂, _∙_, subst, subst₂}
 use mathlib.Core.Logic.{_⊎_, inl, inr, ⊎-elim}
-use mathlib.Core.Bool.{Bool, true, false, not, _&&_, cond}
+use mathlib.Core.Bool.{Bool, true, false, cond}
 use native.Mathlib.Nat.{le-refl, le-trans, le-of-suc-le-suc, le-suc}
 use native.Mathlib.Omega.{arith}
 use lib.Dec.{eqb}
 use lib.ListN.{getD}
-use Rattle.labels.proofs.Laws.{Flows}
 use Rattle.model.specs.declared.Fixed.{Fixed}
 use Rattle.model.specs.declared.Control.{Control}
 use Rattle.model.specs.declared.Call.{Call}
 use Rattle.model.specs.Record.{State, isEmpty, endTickOf, pairOf, newest, inUpcall}
 use Rattle.model.specs.Ops.{noGate}
-use Rattle.model.specs.Step.{endTick, running, step, steps}
+use Rattle.model.specs.Step.{endTick, running, withControl, step, steps}
 use Rattle.model.specs.Seen.{within, seen, unseen, seenControl, LowEquivalent}
 use Rattle.model.specs.Noninterference.{StepProvisos, timedFromOutside, SameSetting}
-use Rattle.model.proofs.Truth.{either, clash}
+use Rattle.model.proofs.Truth.{either, clash, and-iff, not-iff}
 use Rattle.model.proofs.Legal.{_⊑_}
 use Rattle.model.proofs.WellFormed.{step-fixed}
 use Rattle.model.proofs.Step.{Ready, step-ready}
@@ -59,13 +58,13 @@ pub record Both (ℓ : ℕ) (s t : State) : Type 0 where
 -- Under one control the same is seen of it.
 same-control : (ℓ : ℕ) (s t : State) → s .control ≡ t .control → seenControl ℓ s ≡ seenControl ℓ t
 unfolding seenControl
-same-control ℓ s t e = ap (λ (c : Control). cond (within ℓ (c .pair .pc)) (seen c) unseen) e
+same-control ℓ s t e = ap (λ (c : Control). seenControl ℓ (withControl s c)) e
 
 -- With both outside nothing is.
 no-control : (ℓ : ℕ) (s t : State) → within ℓ (s .control .pair .pc) ≡ false → within ℓ (t .control .pair .pc) ≡ false
     → seenControl ℓ s ≡ seenControl ℓ t
 unfolding seenControl
-no-control ℓ s t e f = rw (e, f)
+no-control ℓ s t e f = rw (e, f) refl
 
 -- A state whose pc label is within has its timing label within, by the proviso.
 timing-within : (ℓ : ℕ) (s : State) → timedFromOutside ℓ s ≡ false → within ℓ (s .control .pair .pc) ≡ true
@@ -74,7 +73,7 @@ unfolding timedFromOutside
 timing-within ℓ s p e =
     ⊎-elim
     (λ (h : within ℓ (s .control .pair .timing) ≡ true). h)
-    (λ (h : within ℓ (s .control .pair .timing) ≡ false). clash (rw (e, h)) p)
+    (λ (h : within ℓ (s .control .pair .timing) ≡ false). clash (and-iff _ _ .1 (e, not-iff _ .1 h)) p)
     (either (within ℓ (s .control .pair .timing)))
 
 -- ---- how two machines with one control stand
@@ -120,19 +119,31 @@ stand ℓ s t e p =
     (λ (r : running s ≡ false). over e r)
     (either (running s))
 
+-- What is seen of the control is the whole of it.
+same-seen : {c d : Control} → seen c ≡ seen d → c ≡ d
+same-seen e = cc
+
+-- Nothing is both seen and not.
+seen-unseen : {c : Control} → seen c ≡ unseen → ⊥
+seen-unseen e = let z : _≡_ {A = ℕ} 0 1 = cc in omega arith
+
 -- Of a control that is seen in both it is one.
 seen-control : (ℓ : ℕ) (s t : State) → seenControl ℓ s ≡ seenControl ℓ t
     → (s .control ≡ t .control) ⊎ ((within ℓ (s .control .pair .pc) ≡ false) × (within ℓ (t .control .pair .pc) ≡ false))
 unfolding seenControl
 seen-control ℓ s t e =
-    go (within ℓ (s .control .pair .pc)) (within ℓ (t .control .pair .pc)) e
-  where
-    go : (x y : Bool) → cond x (seen (s .control)) unseen ≡ cond y (seen (t .control)) unseen
-        → (s .control ≡ t .control) ⊎ ((x ≡ false) × (y ≡ false))
-    go true true e = inl cc
-    go true false e = absurd (let z : _≡_ {A = ℕ} 0 1 = cc in omega arith)
-    go false true e = absurd (let z : _≡_ {A = ℕ} 0 1 = cc in omega arith)
-    go false false e = inr (refl, refl)
+    ⊎-elim
+    (λ (x : within ℓ (s .control .pair .pc) ≡ true).
+    ⊎-elim
+    (λ (y : within ℓ (t .control .pair .pc) ≡ true). inl (same-seen (rw (x, y) at e)))
+    (λ (y : within ℓ (t .control .pair .pc) ≡ false). absurd (seen-unseen (rw (x, y) at e)))
+    (either (within ℓ (t .control .pair .pc))))
+    (λ (x : within ℓ (s .control .pair .pc) ≡ false).
+    ⊎-elim
+    (λ (y : within ℓ (t .control .pair .pc) ≡ true). absurd (seen-unseen (sym (rw (x, y) at e))))
+    (λ (y : within ℓ (t .control .pair .pc) ≡ false). inr (x, y))
+    (either (within ℓ (t .control .pair .pc))))
+    (either (within ℓ (s .control .pair .pc)))
 
 -- How two machines stand that start alike, with no upcall open.
 first-stand : (ℓ : ℕ) (s t : State) → timedFromOutside ℓ s ≡ false → seenControl ℓ s ≡ seenControl ℓ t

@@ -1,20 +1,19 @@
 -- What is seen at a label, in two states and after a write: what is seen of the one is there in the other, a hidden write
 -- shows nothing, and the same write to something seen shows the same.
 -- Assumes nothing.
-use Prim.Native.Nat.{ℕ, _<_}
-use mathlib.Core.Path.{_≡_, refl, sym, ap, ap₂, _∙_, subst}
-use mathlib.Core.Logic.{_⊎_, inl, inr, ⊎-elim}
-use mathlib.Core.Bool.{Bool, true, false, not, _&&_, cond, and-false}
+use Prim.Native.Nat.{ℕ}
+use mathlib.Core.Path.{_≡_, refl, sym, ap, _∙_, subst}
+use mathlib.Core.Logic.{⊎-elim}
+use mathlib.Core.Bool.{Bool, true, false, cond, and-false}
 use native.Mathlib.Omega.{arith}
-use lib.Dec.{ltb, eqb}
 use borrow.Author.Tests.{ltb-true, lt-ltb, eqb-true}
 use Rattle.labels.specs.Label.{flows}
-use Rattle.labels.proofs.Laws.{Flows, flows-trans, not-flows}
+use Rattle.labels.proofs.Laws.{flows-trans}
 use Rattle.model.specs.Record.{State, Location, register, word, valueAt, labelAt}
 use Rattle.model.specs.Ops.{Write, nothing, value, label}
 use Rattle.model.specs.Step.{written}
-use Rattle.model.specs.Seen.{within, exists, Seen, hidden, shown, seenAt}
-use Rattle.model.proofs.Truth.{choice, either, clash, same-outcome}
+use Rattle.model.specs.Seen.{within, exists, hidden, shown, seenAt}
+use Rattle.model.proofs.Truth.{either, clash, same-outcome}
 use Rattle.model.proofs.Writes.{There, same, value-after-value, label-after-label, label-after-value, value-after-label, written-fixed}
 use Rattle.model.proofs.Legal.{_⊑_, Inside}
 

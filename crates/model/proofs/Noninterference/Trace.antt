@@ -3,25 +3,25 @@
 -- Assumes nothing.
 use Prim.Native.Nat.{ℕ, zero, suc, _+_, _-_, _<_, _≤_, min}
 use mathlib.Core.Path.{_≡_, refl, sym, ap, ap₂, _∙_, subst}
-use mathlib.Core.Logic.{_⊎_, inl, inr, ⊎-elim}
-use mathlib.Core.Bool.{Bool, true, false, not, _&&_, _||_, cond, and-false, false-and}
+use mathlib.Core.Logic.{inl, inr, ⊎-elim}
+use mathlib.Core.Bool.{true, false, and-false}
 use mathlib.Core.List.{List, [], _∷_, _++_}
-use native.Mathlib.Nat.{zero-add, suc-add, le-refl, le-trans, lt-of-lt-of-le, min-le-right, min-le-left}
+use native.Mathlib.Nat.{zero-add, suc-add, lt-of-lt-of-le, min-le-right, min-le-left}
 use native.Mathlib.Omega.{arith}
-use lib.Dec.{leb, ltb, eqb}
-use lib.ListN.{length, take, drop, getD, length-take, drop-of-length-le}
-use lib.Seq.{sets, set-getD, drop-cons, take-nil}
+use lib.Dec.{leb, ltb}
+use lib.ListN.{length, take, drop, length-take, drop-of-length-le}
+use lib.Seq.{sets, set-getD, drop-cons}
 use borrow.Author.Tests.{leb-true, leb-false, ltb-true, ltb-false, le-ltb, lt-leb, le-leb}
 use Rattle.model.specs.declared.Fixed.{Fixed}
-use Rattle.model.specs.Record.{Bank, Machine, State, machineOf, stateOf}
-use Rattle.model.specs.WellFormed.{wellFormed, lentWhole}
+use Rattle.model.specs.Record.{Bank, Machine, State, machineOf}
+use Rattle.model.specs.WellFormed.{lentWhole}
 use Rattle.model.specs.Step.{running, step, steps, run}
 use Rattle.model.specs.Answer.{Answer, answer, refused, done}
-use Rattle.model.specs.Noninterference.{Kind, stepCall, runCall, Lent, whole, part, Invocation, lend, regain, answerOf, answered, after, afterAll, runStates, workStates, callStates, trace, final, atTick, reached, StepProvisos, StepsProvisos}
-use Rattle.model.proofs.Truth.{either, clash, or-true, not-iff}
+use Rattle.model.specs.Noninterference.{Kind, stepCall, runCall, Lent, whole, part, Invocation, lend, regain, answerOf, answered, after, afterAll, runStates, workStates, callStates, trace, final, atTick, reached, StepsProvisos}
+use Rattle.model.proofs.Truth.{either, not-iff}
 use Rattle.model.proofs.WellFormed.{fits}
 use Rattle.model.proofs.Step.{Ready, step-ready, step-passes}
-use Rattle.model.proofs.Run.{steps-ended, steps-add, steps-ready, steps-leave}
+use Rattle.model.proofs.Run.{steps-ended, steps-add, steps-ready}
 use Rattle.model.proofs.Noninterference.Paths.{Allowed, Rests}
 
 -- ---- so many steps in a row
@@ -132,7 +132,7 @@ short-row q s r e =
     let h = answer-short q s r e in
     record {
       count = 0;
-      states = rw h;
+      states = rw h refl;
       last =
           rw (h, regain-lent (s .fixed .size) (q .words) (s .memory .values), regain-lent (s .fixed .size) (q .labels) (s .memory .labels));
     }

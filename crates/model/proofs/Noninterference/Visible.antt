@@ -2,27 +2,25 @@
 -- its change of control is within sight, and what decides a write to a location within sight is too. So both steps leave
 -- one control, and states that are alike.
 -- Assumes nothing.
-use Prim.Native.Nat.{ℕ, _+_, _<_, _≤_, _/_, _%_, _^_}
+use Prim.Native.Nat.{ℕ, _+_, _<_, _/_, _%_, _^_}
 use mathlib.Core.Path.{_≡_, refl, sym, ap, ap₂, _∙_, subst}
 use mathlib.Core.Logic.{_⊎_, inl, inr, ⊎-elim}
-use mathlib.Core.Bool.{Bool, true, false, not, _&&_, cond}
+use mathlib.Core.Bool.{Bool, true, false, _&&_, cond}
 use native.Mathlib.Nat.{mod-lt}
 use lib.Dec.{ltb, eqb, lit<}
 use lib.Pow.{shr-lt}
 use lib.ListN.{getD}
 use borrow.Author.Tests.{ltb-true, eq-eqb}
-use Rattle.labels.specs.Label.{flows, join}
-use Rattle.labels.proofs.Laws.{Flows, flows-trans, join-flows}
-use Rattle.model.specs.declared.Pair.{Pair}
-use Rattle.model.specs.declared.CallGate.{CallGate}
+use Rattle.labels.specs.Label.{flows}
+use Rattle.labels.proofs.Laws.{join-flows}
 use Rattle.model.specs.declared.Control.{Control}
-use Rattle.model.specs.Record.{State, Location, register, word, valueAt, labelAt, newest, inUpcall}
+use Rattle.model.specs.Record.{State, Location, register, word, valueAt, labelAt, inUpcall}
 use Rattle.model.specs.Word.{Arithmetic, add, subtract, and, or, xor, less, multiply, Op, immediate, arithmetic, load, store, branch, jump, readClock, setLabel, setPair, upcall, endUpcall, gateCall, gateReturn, halt, aField, bField, cField, dField, nField, decode, opField}
-use Rattle.model.specs.Ops.{Write, nothing, value, label, Change, write, goto, enter, openUpcall, openGate, closeGate, stop, Effect, does, ends, Row, row, noGate, newPairAllowed, mayUpcall, mayCallGate, mayReturn, multiplyTicks, arithmeticTicks, Rb, table}
-use Rattle.model.specs.Step.{Fetched, failed, fetched, known, fetch, Decision, rest, spend, stall, close, carry, endTick, finish, fault, passed, attempt, inTime, plan, beyondLimit, inLimit, running, decide, causeAllowed, causeWrite, changeWrite, writeOf, written, withControl, restored, changed, controlAfter, apply, step}
+use Rattle.model.specs.Ops.{Write, nothing, value, label, write, goto, enter, openUpcall, openGate, closeGate, stop, Effect, does, ends, Row, row, noGate, newPairAllowed, mayUpcall, mayCallGate, mayReturn, multiplyTicks, arithmeticTicks, Rb, gate, table}
+use Rattle.model.specs.Step.{Fetched, failed, fetched, known, fetchAllowed, fetch, Decision, rest, spend, stall, close, carry, endTick, finish, fault, attempt, inTime, plan, beyondLimit, inLimit, running, decide, causeAllowed, causeWrite, writeOf, written, withControl, changed, controlAfter, apply, step}
 use Rattle.model.specs.Seen.{within, exists}
 use Rattle.model.specs.Noninterference.{SameSetting, StepProvisos, downgrades}
-use Rattle.model.proofs.Truth.{either, clash, and-iff, not-iff, same-outcome}
+use Rattle.model.proofs.Truth.{either, clash, and-iff, same-choice}
 use Rattle.model.proofs.Writes.{same, label-after-label}
 use Rattle.model.proofs.Legal.{_⊑_, Inside, LegalWrite, keeps, sets, marks}
 use Rattle.model.proofs.WellFormed.{step-control}
@@ -54,13 +52,13 @@ d-exists s w = inside-exists s (register (nField w / 2 ^ 8 % 2 ^ 4)) (mod-lt _ (
 
 -- Equal settings go both ways.
 pub setting-sym : {s t : State} → SameSetting s t → SameSetting t s
-setting-sym e =
+setting-sym {s} {t} e =
     record {
       size = sym (e .size);
       limit = sym (e .limit);
       errorpc = sym (e .errorpc);
       count = sym (e .count);
-      gates = λ k h. sym (e .gates k (rw (e .count) h));
+      gates = λ k h. let count : t .fixed .count ≡ s .fixed .count = sym (e .count) in sym (e .gates k (subst (λ (n : ℕ). k < n) count h));
     }
 
 -- Two states under one control whose labels are within ℓ, of equal setting and alike.
@@ -118,13 +116,15 @@ module _ {ℓ : ℕ} {c : Control} {a b : State} (h : Together ℓ c a b) (w : �
       let la = seen-equal (h .alike) (register (aField w)) (a-exists one w) v in
       let lb = equal (in-sight _ v) (register (bField w)) (b-exists one w) (k .1 .0 .1) in
       let lw = equal (in-sight _ v) (word (Rb one w)) (unfold exists in k .0) (k .1 .1) in
-      rw (la .0, lw .0, lw .1, lb .0, lb .1, h .setting .size)
+      let size : a .fixed .size ≡ b .fixed .size = h .setting .size in
+      rw (la .0, lw .0, lw .1, lb .0, lb .1, size)
   row-equal store e (sight.sets v) =
       let k = simp (and-iff, join-flows) at e in
       let lw = seen-equal (h .alike) (word (Rb one w)) (unfold exists in k .0) v in
       let la = equal (in-sight _ v) (register (aField w)) (a-exists one w) (k .1 .1) in
       let lb = equal (in-sight _ v) (register (bField w)) (b-exists one w) (k .1 .0 .1) in
-      rw (lw .0, la .0, la .1, lb .0, lb .1, h .setting .size)
+      let size : a .fixed .size ≡ b .fixed .size = h .setting .size in
+      rw (lw .0, la .0, la .1, lb .0, lb .1, size)
   row-equal (branch f) e v =
       let k = simp (and-iff, join-flows) at e in
       let la = equal (h .pc) (register (aField w)) (a-exists one w) (k .0) in
@@ -154,8 +154,9 @@ module _ {ℓ : ℕ} {c : Control} {a b : State} (h : Together ℓ c a b) (w : �
   row-equal gateCall e v =
       let k = simp and-iff at e in
       let lb = equal (h .pc) (register (bField w)) (b-exists one w) (k .1) in
-      let lg = h .setting .gates (Rb one w) (ltb-true _ _ (k .0 .0 .0 .0 .1)) in
-      rw (lg, lb .0, lb .1, h .setting .count)
+      let lg : gate one w ≡ getD (b .fixed .gates) (Rb one w) noGate =
+      h .setting .gates (Rb one w) (ltb-true _ _ (k .0 .0 .0 .0 .1)) in
+      let count : a .fixed .count ≡ b .fixed .count = h .setting .count in rw (lg, lb .0, lb .1, count)
   row-equal gateReturn e v = refl
   row-equal halt e v = refl
 
@@ -324,7 +325,7 @@ module _ {ℓ : ℕ} {c : Control} {a b : State} (h : Together ℓ c a b) where
   multiply-same : (v v′ : Bool) (x x′ : ℕ) → v ≡ v′ → (v ≡ true → x ≡ x′) → multiplyTicks v x ≡ multiplyTicks v′ x′
   unfolding multiplyTicks
   multiply-same true v′ x x′ e f = rw (← e, f refl)
-  multiply-same false v′ x x′ e f = rw (← e)
+  multiply-same false v′ x x′ e f = ap (λ (b : Bool). multiplyTicks b x′) e
 
   -- The ticks of ops 2 to 8.
   ticks-same : (f : Arithmetic) (v v′ : Bool) (x x′ : ℕ) → v ≡ v′ → (v ≡ true → x ≡ x′)
@@ -382,23 +383,17 @@ module _ {ℓ : ℕ} {c : Control} {a b : State} (h : Together ℓ c a b) where
   fetch-same : fetch (withControl a c) ≡ fetch (withControl b c)
   unfolding fetch
   fetch-same =
-      ⊎-elim
-      (λ (e : ltb (c .pc) (a .fixed .size) ≡ true).
-      let x : exists (withControl a c) (word (c .pc)) ≡ true = unfold exists in e in
-      let q = flows-alike (h .alike) (h .pc) (word (c .pc)) x in
-      ⊎-elim
-      (λ (k : flows (labelAt (withControl a c) (word (c .pc))) (c .pair .pc) ≡ true).
-      rw (flows-equal (h .alike) (h .pc) (word (c .pc)) x k .1, q, h .setting .size))
-      (λ (k : flows (labelAt (withControl a c) (word (c .pc))) (c .pair .pc) ≡ false).
-      rw (k, sym q ∙ k, h .setting .size))
-      (either (flows (labelAt (withControl a c) (word (c .pc))) (c .pair .pc))))
-      (λ (e : ltb (c .pc) (a .fixed .size) ≡ false). rw (e, sym (ap (ltb (c .pc)) (h .setting .size)) ∙ e))
-      (either (ltb (c .pc) (a .fixed .size)))
+      same-choice (ltb (c .pc) (a .fixed .size)) (ltb (c .pc) (b .fixed .size)) _ _ _
+      (λ e. let x : exists (withControl a c) (word (c .pc)) ≡ true = unfold exists in e in
+      same-choice (fetchAllowed (withControl a c)) (fetchAllowed (withControl b c)) _ _ _
+      (λ k. ap (λ (w : ℕ). known w (decode (opField w))) (flows-equal (h .alike) (h .pc) (word (c .pc)) x k .1))
+      (flows-alike (h .alike) (h .pc) (word (c .pc)) x))
+      (let size : a .fixed .size ≡ b .fixed .size = h .setting .size in ap (ltb (c .pc)) size)
 
   -- A failed fetch does the same in both.
   fault-same : (why : ℕ) → fault (withControl a c) why ≡ fault (withControl b c) why
   unfolding fault
-  fault-same why = rw (h .setting .errorpc)
+  fault-same why = let errorpc : a .fixed .errorpc ≡ b .fixed .errorpc = h .setting .errorpc in rw errorpc
 
   -- The end tick bars the same in both.
   time-similar : {d e : Decision} → Similar ℓ (withControl a c) (withControl b c) d e
