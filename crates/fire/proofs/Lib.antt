@@ -1,1 +1,3 @@
 mod Laws
+mod WordLabels
+pub mod Buffer
