@@ -21,7 +21,7 @@ use Rattle.model.proofs.Run.{run-leaves}
 use Rattle.model.proofs.Program.{load-ready, run-load-ready}
 use Rattle.text.proofs.Decimal.{digits-below}
 use Rattle.text.proofs.Fields.{line-most, three-fields}
-use Rattle.image.proofs.Lines.{cond-most, head-most, entries-most, listing-length}
+use Rattle.printer.proofs.Lines.{cond-most, head-most, entries-most, listing-length}
 use Rattle.fire.proofs.WordLabels.{Bytes, run-labels, load-bytes}
 
 -- A ready state whose word labels are bytes.

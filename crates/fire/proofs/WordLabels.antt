@@ -22,8 +22,8 @@ use Rattle.model.specs.Step.{Fetched, failed, fetched, fetch, Decision, rest, s
 use Rattle.model.specs.Load.{machineOfHeader, withEntry, headerInRange, entryInRange, Progress, Verdict, refuse, accept, judge, cleared, fill, Loading, refusal, settle, loadLines, load}
 use Rattle.model.proofs.Truth.{choice, and-iff, clash}
 use Rattle.model.proofs.Step.{below-set}
-use Rattle.image.specs.Load.{storable}
-use Rattle.image.proofs.load.Judging.{entry-range, Acceptable, acceptable}
+use Rattle.loader.specs.Load.{storable}
+use Rattle.loader.proofs.Judging.{entry-range, Acceptable, acceptable}
 
 -- ---- a step
 

@@ -1,14 +1,14 @@
 // Firing a text: it is loaded into lent memory, run to its end, and its listing is written into lent output. A text that
 // is refused gets the line `X,number,line` instead.
-use image::load::Verdict;
-use image::load::load;
-use image::print::Outcome;
-use image::print::print;
+use loader::Verdict;
+use loader::load;
+use printer::Outcome;
+use printer::print;
 use text::write::write_line;
 ghost use mathlib.Core.Path.{_≡_};
 ghost use Rattle.machine.specs.Answered.{lent};
-ghost use Rattle.image.specs.Load.{numberOf, lineOf};
-ghost use Rattle.image.specs.Printing.{lengthOf};
+ghost use Rattle.loader.specs.Load.{numberOf, lineOf};
+ghost use Rattle.printer.specs.Printing.{lengthOf};
 ghost use Rattle.model.specs.Program.{fire};
 ghost use Rattle.fire.specs.Fired.{fired};
 

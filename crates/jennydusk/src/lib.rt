@@ -1,17 +1,17 @@
 // The machine for programs in other languages: load, step, run and print over buffers that the caller lends. A record
 // stands in a buffer of 64-bit words, as the crate layout has it. Nothing is kept between calls.
-use image::load::Verdict;
-use image::load::load;
-use image::print::Outcome as PrintOutcome;
-use image::print::print;
 use layout::Found;
+use loader::Verdict;
+use loader::load;
 use machine::Machine;
 use machine::Outcome;
+use printer::Outcome as PrintOutcome;
+use printer::print;
 ghost use Prim.Native.Nat.{_≤_, _^_};
 ghost use mathlib.Core.Path.{_≡_};
 ghost use Rattle.machine.specs.Answered.{recordOf, numberOf, lent};
-ghost use Rattle.image.specs.Load.{numberOf as Load·numberOf, lineOf};
-ghost use Rattle.image.specs.Printing.{numberOf as Printing·numberOf, lengthOf};
+ghost use Rattle.loader.specs.Load.{numberOf as Load·numberOf, lineOf};
+ghost use Rattle.printer.specs.Printing.{numberOf as Printing·numberOf, lengthOf};
 ghost use Rattle.jennydusk.specs.Calls.{left, kept, counted, shown, loadCall, stepCall, runCall, printCall};
 
 // The answer for a buffer that holds no record.
