@@ -11,17 +11,17 @@ use Rattle.fire.proofs.fire.Tie as tie
 load-requires : tie.Need-load-requires
 load-requires c κs = search needs
 
-refusal-of-requires : tie.Need-refusal-of-requires
-refusal-of-requires c κs = search needs
+number-requires : tie.Need-number-requires
+number-requires c κs = search needs
 
-line-of-requires : tie.Need-line-of-requires
-line-of-requires c κs = search needs
+cast-number : tie.Need-cast-number
+cast-number c = search needs
 
-cast-t22 : tie.Need-cast-t22
-cast-t22 c = search needs
+line-requires : tie.Need-line-requires
+line-requires c κs = search needs
 
-cast-t23 : tie.Need-cast-t23
-cast-t23 c = search needs
+cast-line : tie.Need-cast-line
+cast-line c = search needs
 
 slice-aggregate-write-line : tie.Need-slice-aggregate-write-line
 slice-aggregate-write-line c = search needs
@@ -45,9 +45,9 @@ returns c =
     let loaded = tested .before .before .before .before .before .before .before in
     let start = loaded .before .before .before .before .before .before .before in
     refused-firing (start .args .text .now) (lent (start .args .words .now) (start .args .labels .now))
-    (start .args .out .now) _ (loaded .load .ensures) (tested .before .before .refusal-of .ensures)
+    (start .args .out .now) _ (loaded .load .ensures) (tested .before .before .number .ensures)
     (answer (written .write-line .result) (written .write-line .last .0)) (tested .if1 .taken)
-    (tested .before .line-of .ensures) (written .write-line .ensures)
+    (tested .before .line .ensures) (written .write-line .ensures)
 
 run-requires : tie.Need-run-requires
 run-requires c κs = search needs
@@ -55,8 +55,8 @@ run-requires c κs = search needs
 print-requires : tie.Need-print-requires
 print-requires c κs = search needs
 
-length-of-requires : tie.Need-length-of-requires
-length-of-requires c κs = search needs
+bytes-requires : tie.Need-bytes-requires
+bytes-requires c κs = search needs
 
 same-length-4 : tie.Need-same-length-4
 same-length-4 c =
@@ -80,9 +80,9 @@ returns-2 c =
     let tested = ran .before .before .before .before in
     let loaded = tested .before .before .before .before .before .before .before in
     let start = loaded .before .before .before .before .before .before .before in
-    rw (c .length-of .ensures)
+    rw (c .bytes .ensures)
     (accepted-firing (start .args .text .now) (lent (start .args .words .now) (start .args .labels .now))
-    (start .args .out .now) _ (loaded .load .ensures) (tested .before .before .refusal-of .ensures) _ _ (tested .if1 .left)
+    (start .args .out .now) _ (loaded .load .ensures) (tested .before .before .number .ensures) _ _ (tested .if1 .left)
     (ran .run .ensures) (printed .print .ensures))
 
 pub fire-spec : {M : Type 1} → statement M
@@ -90,10 +90,10 @@ fire-spec =
     tie.close
     (tie.spec
     load-requires
-    refusal-of-requires
-    line-of-requires
-    cast-t22
-    cast-t23
+    number-requires
+    cast-number
+    line-requires
+    cast-line
     slice-aggregate-write-line
     write-line-requires
     same-length
@@ -102,7 +102,7 @@ fire-spec =
     returns
     run-requires
     print-requires
-    length-of-requires
+    bytes-requires
     same-length-4
     same-length-5
     same-length-6
