@@ -15,7 +15,6 @@ use Rattle.model.specs.declared.Call.{Call}
 use Rattle.model.specs.declared.Call.the-variants.{Empty, Gate, Upcall}
 use Rattle.model.specs.Record.{Bank, State, machineOf}
 use Rattle.model.specs.WellFormed.{endInRange, wellFormed}
-use Rattle.model.specs.Typed.{Below}
 use Rattle.model.specs.Listing.{decimal, line, callLine, differs, entryLine, entryLines, listing}
 use Rattle.model.proofs.Truth.{and-iff, choice}
 use Rattle.model.proofs.WellFormed.{Fit, CallsFit, none, gate, upcall, both, fit}
@@ -37,10 +36,10 @@ KeptInTypes Empty = Unit {0}
 KeptInTypes (Gate k q) = (k < 2 ^ 32) × LabelPair q
 KeptInTypes (Upcall k q e) = (k < 2 ^ 32) × LabelPair q
 
--- Values below 2^32, labels below 256.
-pub record BankInTypes (b : Bank) : Type 0 where
-  pub values : Below (2 ^ 32) (b .values)
-  pub labels : Below 256 (b .labels)
+-- Of the first n entries: values below 2^32, labels below 256.
+pub record BankInTypes (n : ℕ) (b : Bank) : Type 0 where
+  pub values : (k : ℕ) → k < n → getD (b .values) k 0 < 2 ^ 32
+  pub labels : (k : ℕ) → k < n → getD (b .labels) k 0 < 256
 
 -- The numbers of a state.
 pub record InTypes (s : State) : Type 0 where
@@ -48,8 +47,8 @@ pub record InTypes (s : State) : Type 0 where
   pub pair : LabelPair (s .control .pair)
   pub first : KeptInTypes (s .control .first)
   pub second : KeptInTypes (s .control .second)
-  pub registers : BankInTypes (s .registers)
-  pub memory : BankInTypes (s .memory)
+  pub registers : BankInTypes 16 (s .registers)
+  pub memory : BankInTypes (s .fixed .size) (s .memory)
 
 -- ---- the E line
 
@@ -110,28 +109,33 @@ calls-bound (both {k} {j} {e} {q} {r} v h) t u =
 -- ---- R and W lines
 
 -- An entry whose number has at most so many digits.
-entry-bound : (letter : ℕ) (b : Bank) (w k : ℕ) → BankInTypes b → length (decimal k) ≤ w
+entry-bound : (letter : ℕ) (b : Bank) (w n k : ℕ) → BankInTypes n b → k < n → length (decimal k) ≤ w
     → length (entryLine letter b k) ≤ 18 + w
-unfolding entryLine Below
-entry-bound letter b w k t h =
+unfolding entryLine
+entry-bound letter b w n k t i h =
     omega (
       arith,
       cond-most (differs b k) (line letter (k ∷ getD (b .labels) k 0 ∷ getD (b .values) k 0 ∷ [])),
       three-fields letter k (getD (b .labels) k 0) (getD (b .values) k 0),
-      digits-below 2 (getD (b .labels) k 0) (omega (arith, t .labels k)),
-      digits-below 9 (getD (b .values) k 0) (omega (arith, t .values k)),
+      digits-below 2 (getD (b .labels) k 0) (omega (arith, t .labels k i)),
+      digits-below 9 (getD (b .values) k 0) (omega (arith, t .values k i)),
     )
 
--- Entries below 10^(w + 1).
-entries-bound : (letter : ℕ) (b : Bank) (w j n : ℕ) → BankInTypes b → j + n ≤ 10 ^ suc w
+-- Some of the first m entries, which are at most 10^(w + 1).
+some-entries : (letter : ℕ) (b : Bank) (w m j n : ℕ) → BankInTypes m b → m ≤ 10 ^ suc w → j + n ≤ m
     → length (entryLines letter b j n) ≤ (18 + suc w) * n
 unfolding entryLines
-entries-bound letter b w j zero t h = omega arith
-entries-bound letter b w j (suc n) t h =
+some-entries letter b w m j zero t h i = omega arith
+some-entries letter b w m j (suc n) t h i =
     let d = digits-below w j (omega arith) in
     rw mul-suc
     (simp length-append
-    (omega (arith, entry-bound letter b (suc w) j t d, entries-bound letter b w (j + 1) n t (omega arith))))
+    (omega (arith, entry-bound letter b (suc w) m j t (omega arith) d, some-entries letter b w m (j + 1) n t h (omega arith))))
+
+-- All of them.
+pub entries-bound : (letter : ℕ) (b : Bank) (w n : ℕ) → BankInTypes n b → n ≤ 10 ^ suc w
+    → length (entryLines letter b 0 n) ≤ (18 + suc w) * n
+entries-bound letter b w n t h = some-entries letter b w n 0 n t h (omega arith)
 
 -- ---- the listing
 
@@ -146,7 +150,7 @@ listing-bound s e t =
       head-length (s .control),
       end-bound s f t,
       calls-bound (f .calls) (t .first) (t .second),
-      entries-bound 82 (s .registers) 1 0 16 (t .registers) (omega arith),
-      entries-bound 87 (s .memory) 3 0 (s .fixed .size) (t .memory) (omega (arith, f .fixed .sizeHigh)),
+      entries-bound 82 (s .registers) 1 16 (t .registers) (omega arith),
+      entries-bound 87 (s .memory) 3 (s .fixed .size) (t .memory) (omega (arith, f .fixed .sizeHigh)),
       f .fixed .sizeHigh,
     ))
