@@ -1,3 +1,4 @@
 mod Laws
 mod WordLabels
 pub mod Buffer
+pub mod Fresh
