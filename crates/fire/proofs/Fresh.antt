@@ -9,11 +9,11 @@ use mathlib.Core.List.{List, [], _∷_, _++_}
 use native.Mathlib.Nat.{lt-of-lt-of-le}
 use native.Mathlib.Omega.{arith}
 use lib.Dec.{leb, ltb, eqb}
-use lib.ListN.{length, drop, getD, set, replicate, length-set, length-append, length-replicate, List·getD-append}
+use lib.ListN.{length, drop, getD, replicate, length-set, length-append, length-replicate, List·getD-append}
 use borrow.Author.Tests.{ltb-true, eqb-true}
 use Rattle.labels.specs.Label.{lowest}
 use Rattle.model.specs.declared.Control.{Control}
-use Rattle.model.specs.Record.{Bank, Machine, State, Location, register, word, valueAt, labelAt, machineOf, stateOf}
+use Rattle.model.specs.Record.{Bank, Machine, State, register, word, valueAt, labelAt, machineOf, stateOf}
 use Rattle.model.specs.Word.{Op, immediate, arithmetic, load as loadWord, store, branch, jump, readClock, setLabel, setPair, upcall, endUpcall, gateCall, gateReturn, halt}
 use Rattle.model.specs.Ops.{Write, nothing, value, label, newPairAllowed, mayUpcall, mayCallGate, mayReturn, Rb, table}
 use Rattle.model.specs.Step.{Fetched, failed, fetched, fetch, Decision, rest, spend, stall, close, carry, endTick, finish, fault, attempt, inTime, plan, beyondLimit, inLimit, running, decide, written, causeAllowed, causeWrite, writeOf, controlAfter, withControl, apply, step, steps, run}
@@ -40,14 +40,14 @@ record Agree (size : ℕ) (m n : Bank) : Type 0 where
 -- ---- a step of one record over two memories that agree
 
 module _ (r : Machine) (m n : Bank) (a : Agree (r .fixed .size) m n) where
-  abbrev s : State
-  s = stateOf r m
+  abbrev one : State
+  one = stateOf r m
 
-  abbrev t : State
-  t = stateOf r n
+  abbrev two : State
+  two = stateOf r n
 
   -- The fetch reads below the size.
-  fetch-same : fetch s ≡ fetch t
+  fetch-same : fetch one ≡ fetch two
   unfolding fetch valueAt labelAt
   fetch-same =
       ⊎-elim
@@ -57,21 +57,21 @@ module _ (r : Machine) (m n : Bank) (a : Agree (r .fixed .size) m n) where
       (either (ltb (r .control .pc) (r .fixed .size)))
 
   -- So do the ops: 9 and 10 are the ones that read a word.
-  attempt-same : (w : ℕ) (op : Op) → attempt s (table s w op) ≡ attempt t (table t w op)
+  attempt-same : (w : ℕ) (op : Op) → attempt one (table one w op) ≡ attempt two (table two w op)
   unfolding attempt table newPairAllowed mayUpcall mayCallGate mayReturn valueAt labelAt
   attempt-same w immediate = refl
   attempt-same w (arithmetic f) = refl
   attempt-same w loadWord =
       ⊎-elim
-      (λ (e : ltb (Rb s w) (r .fixed .size) ≡ true).
-      let h = ltb-true _ _ e in rw (a .values (Rb s w) h, a .labels (Rb s w) h))
-      (λ (e : ltb (Rb s w) (r .fixed .size) ≡ false). rw e)
-      (either (ltb (Rb s w) (r .fixed .size)))
+      (λ (e : ltb (Rb one w) (r .fixed .size) ≡ true).
+      let h = ltb-true _ _ e in rw (a .values (Rb one w) h, a .labels (Rb one w) h))
+      (λ (e : ltb (Rb one w) (r .fixed .size) ≡ false). rw e)
+      (either (ltb (Rb one w) (r .fixed .size)))
   attempt-same w store =
       ⊎-elim
-      (λ (e : ltb (Rb s w) (r .fixed .size) ≡ true). rw (a .labels (Rb s w) (ltb-true _ _ e)))
-      (λ (e : ltb (Rb s w) (r .fixed .size) ≡ false). rw e)
-      (either (ltb (Rb s w) (r .fixed .size)))
+      (λ (e : ltb (Rb one w) (r .fixed .size) ≡ true). rw (a .labels (Rb one w) (ltb-true _ _ e)))
+      (λ (e : ltb (Rb one w) (r .fixed .size) ≡ false). rw e)
+      (either (ltb (Rb one w) (r .fixed .size)))
   attempt-same w (branch f) = refl
   attempt-same w jump = refl
   attempt-same w readClock = refl
@@ -84,7 +84,7 @@ module _ (r : Machine) (m n : Bank) (a : Agree (r .fixed .size) m n) where
   attempt-same w halt = refl
 
   -- The rest of a decision reads the record alone.
-  time-same : (d : Decision) → inTime s d ≡ inTime t d
+  time-same : (d : Decision) → inTime one d ≡ inTime two d
   unfolding endTick
   time-same rest = refl
   time-same spend = refl
@@ -92,12 +92,12 @@ module _ (r : Machine) (m n : Bank) (a : Agree (r .fixed .size) m n) where
   time-same (close cause) = refl
   time-same (carry ticks c) = refl
 
-  plan-same : (f : Fetched) → plan s f ≡ plan t f
+  plan-same : (f : Fetched) → plan one f ≡ plan two f
   unfolding fault
   plan-same (failed why) = refl
-  plan-same (fetched w op) = ap (inTime s) (attempt-same w op) ∙ time-same (attempt t (table t w op))
+  plan-same (fetched w op) = ap (inTime one) (attempt-same w op) ∙ time-same (attempt two (table two w op))
 
-  limit-same : (d : Decision) → inLimit s d ≡ inLimit t d
+  limit-same : (d : Decision) → inLimit one d ≡ inLimit two d
   unfolding inLimit beyondLimit finish endTick
   limit-same rest = refl
   limit-same spend = refl
@@ -105,14 +105,14 @@ module _ (r : Machine) (m n : Bank) (a : Agree (r .fixed .size) m n) where
   limit-same (close cause) = refl
   limit-same (carry ticks c) = refl
 
-  decide-same : decide s ≡ decide t
+  decide-same : decide one ≡ decide two
   unfolding decide running
   decide-same =
-      ap (λ (d : Decision). cond (running s) d rest)
-      (ap (inLimit s) (ap (plan s) fetch-same ∙ plan-same (fetch t)) ∙ limit-same (plan t (fetch t)))
+      ap (λ (d : Decision). cond (running one) d rest)
+      (ap (inLimit one) (ap (plan one) fetch-same ∙ plan-same (fetch two)) ∙ limit-same (plan two (fetch two)))
 
   -- What it writes, and where it leaves the control.
-  write-same : (d : Decision) → writeOf s d ≡ writeOf t d
+  write-same : (d : Decision) → writeOf one d ≡ writeOf two d
   unfolding writeOf causeWrite causeAllowed labelAt
   write-same rest = refl
   write-same spend = refl
@@ -120,7 +120,7 @@ module _ (r : Machine) (m n : Bank) (a : Agree (r .fixed .size) m n) where
   write-same (close cause) = refl
   write-same (carry ticks c) = refl
 
-  control-same : (d : Decision) → controlAfter s d ≡ controlAfter t d
+  control-same : (d : Decision) → controlAfter one d ≡ controlAfter two d
   unfolding controlAfter endTick
   control-same rest = refl
   control-same spend = refl
@@ -129,7 +129,7 @@ module _ (r : Machine) (m n : Bank) (a : Agree (r .fixed .size) m n) where
   control-same (carry ticks c) = refl
 
   -- A write leaves one record and two memories that agree.
-  written-same : (w : Write) → machineOf (written s w) ≡ machineOf (written t w)
+  written-same : (w : Write) → machineOf (written one w) ≡ machineOf (written two w)
   unfolding written
   written-same nothing = refl
   written-same (value (register k) v) = refl
@@ -138,8 +138,8 @@ module _ (r : Machine) (m n : Bank) (a : Agree (r .fixed .size) m n) where
   written-same (label (word k) l) = refl
 
   written-agree : r .fixed .size ≤ length (m .values) → r .fixed .size ≤ length (m .labels)
-      → r .fixed .size ≤ length (n .values) → r .fixed .size ≤ length (n .labels) → {w : Write} → LegalWrite s w
-      → Agree (r .fixed .size) (written s w .memory) (written t w .memory)
+      → r .fixed .size ≤ length (n .values) → r .fixed .size ≤ length (n .labels) → {w : Write} → LegalWrite one w
+      → Agree (r .fixed .size) (written one w .memory) (written two w .memory)
   unfolding written
   written-agree x y z u keeps = a
   written-agree x y z u (sets {x = register k} h p lt) = a

@@ -2,28 +2,28 @@
 -- label, that of a register.
 -- Assumes nothing.
 use Prim.Native.Nat.{ℕ, zero, suc, _+_, _<_, _≤_, zero-le}
-use mathlib.Core.Path.{_≡_, refl, ap, _∙_, sym, subst}
-use mathlib.Core.Bool.{Bool, true, _&&_, cond}
+use mathlib.Core.Path.{_≡_, refl, _∙_, sym}
+use mathlib.Core.Bool.{true, _&&_}
 use mathlib.Core.List.{List, [], _∷_, _++_}
 use native.Mathlib.Nat.{lt-of-lt-of-le}
 use native.Mathlib.Omega.{arith}
 use lib.Dec.{leb, ltb, eqb}
-use lib.ListN.{length, drop, getD, set, replicate, length-set, length-append, length-replicate, getD-replicate, List·getD-append}
+use lib.ListN.{length, drop, getD, replicate, length-set, length-append, length-replicate, getD-replicate, List·getD-append}
 use Rattle.labels.specs.Label.{lowest}
 use Rattle.labels.proofs.Constants.{lowest-number}
 use Rattle.model.specs.declared.format.Line.{Line}
 use Rattle.model.specs.declared.format.Line.the-variants.{M, G, R, W, Malformed}
-use Rattle.model.specs.Record.{Bank, Machine, State, Location, register, word, inUpcall}
+use Rattle.model.specs.Record.{Bank, Machine, State, inUpcall}
 use Rattle.model.specs.WellFormed.{isValid, lentWhole}
 use Rattle.model.specs.Text.{lines}
 use Rattle.model.specs.Word.{Op, immediate, arithmetic, load as loadWord, store, branch, jump, readClock, setLabel, setPair, upcall, endUpcall, gateCall, gateReturn, halt}
-use Rattle.model.specs.Ops.{Write, nothing, value, label, Effect, does, ends, Row, table}
+use Rattle.model.specs.Ops.{Write, Effect, does, ends, Row, table}
 use Rattle.model.specs.Step.{Fetched, failed, fetched, fetch, Decision, rest, spend, stall, close, carry, endTick, fault, passed, attempt, inTime, plan, beyondLimit, inLimit, running, decide, written, causeAllowed, causeWrite, changeWrite, writeOf, apply, step, steps, run}
 use Rattle.model.specs.Load.{machineOfHeader, withEntry, headerInRange, entryInRange, Progress, Verdict, refuse, accept, judge, cleared, fill, Loading, refusal, settle, loadLines, load}
 use Rattle.model.proofs.Truth.{choice, and-iff, clash}
 use Rattle.model.proofs.Step.{below-set}
 use Rattle.loader.specs.Load.{storable}
-use Rattle.loader.proofs.Judging.{entry-range, Acceptable, acceptable}
+use Rattle.loader.proofs.Judging.{entry-range, acceptable}
 
 -- ---- a step
 
