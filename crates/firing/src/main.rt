@@ -1,18 +1,10 @@
 // The program `firing`: reads a text from standard input, runs it to its end and prints the listing, or `X,number,line`.
 // Thin over the library: what a text means is promised there.
-use image::load::Verdict;
-use image::load::load;
-use image::print::Outcome;
-use image::print::print;
+use fire::fire;
 use libc::STDERR_FILENO;
 use libc::STDIN_FILENO;
 use libc::STDOUT_FILENO;
-use machine::Machine;
-use text::write::write_line;
 ghost use Rattle.io.specs.Counts.{Counts};
-
-// The letter of a refusal's line.
-const X: u8 = 88;
 
 // What reading standard input gave: whether every read went well, and how many bytes came.
 struct Input {
@@ -64,41 +56,13 @@ fn say(buffer: &[u8], n: usize) {
     complain(b"firing: standard output can't be written\n");
 }
 
-// Prints a refusal.
-fn refuse(number: u8, line: u32) {
-    let mut space = [0u8; 64];
-    let n = write_line(&mut space, X, &[number as u64, line as u64]);
-    say(&space, n);
-}
-
-// Prints the listing. The buffer is longer than any listing, so that no refusal comes up.
-fn show(machine: Machine, words: &[u32], labels: &[u8]) {
-    let mut space = io::large_buffer();
-    let printed = print(machine, words, labels, &mut space);
-    let outcome = printed.outcome;
-    match outcome {
-        Outcome::Written(n) => say(&space, n),
-        Outcome::IllFormed => refuse(7, 0),
-        Outcome::ShortMemory => refuse(6, 0),
-        Outcome::ShortOutput => refuse(8, 0),
-    }
-}
-
-// Loads a text, runs it to its end and prints.
-fn fire(text: &[u8]) {
+// Fires a text and writes what comes of it. The buffer is longer than any listing.
+fn reply(text: &[u8]) {
     let mut words = [0u32; 2048];
     let mut labels = [0u8; 2048];
-    let loaded = load(text, &mut words, &mut labels);
-    let verdict = loaded.verdict;
-    match verdict {
-        Verdict::Refused(number, line) => refuse(number, line),
-        Verdict::Accepted => {
-            let machine = loaded.machine;
-            let answer = machine.run(&mut words, &mut labels);
-            let last = answer.machine;
-            show(last, &words, &labels);
-        }
-    }
+    let mut space = io::large_buffer();
+    let n = fire(text, &mut words, &mut labels, &mut space);
+    say(&space, n);
 }
 
 fn main() {
@@ -106,7 +70,7 @@ fn main() {
     let input = read_input(&mut space);
     if input.whole {
         let n = input.count;
-        fire(&space[..n]);
+        reply(&space[..n]);
     } else {
         complain(b"firing: standard input can't be read\n");
     }

@@ -11,12 +11,12 @@ use Rattle.model.specs.Listing as listing
 use Rattle.model.proofs.Truth.{clash}
 use Rattle.machine.specs.declared.Answer as struct
 use Rattle.machine.specs.Answered.{recordOf, numberOf, answered}
-use Rattle.image.specs.declared.load.Loaded.{Loaded}
-use Rattle.image.specs.declared.print.Printed.{Printed}
-use Rattle.image.specs.declared.print.Outcome.{Outcome}
-use Rattle.image.specs.declared.print.Outcome.the-variants.{Written, IllFormed, ShortMemory, ShortOutput}
-use Rattle.image.specs.Load as load
-use Rattle.image.specs.Printing as print
+use Rattle.loader.specs.declared.Loaded.{Loaded}
+use Rattle.printer.specs.declared.Printed.{Printed}
+use Rattle.printer.specs.declared.Outcome.{Outcome}
+use Rattle.printer.specs.declared.Outcome.the-variants.{Written, IllFormed, ShortMemory, ShortOutput}
+use Rattle.loader.specs.Load as load
+use Rattle.printer.specs.Printing as print
 use Rattle.layout.specs.declared.Reading.{Reading}
 use Rattle.layout.specs.declared.Found.the-variants as found
 use Rattle.layout.specs.Layout.{Holding, holds, nothing}

@@ -1,17 +1,13 @@
 // The machine for programs in other languages: load, step, run and print over buffers that the caller lends. A record
 // stands in a buffer of 64-bit words, as the crate layout has it. Nothing is kept between calls.
-use image::load::Verdict;
-use image::load::load;
-use image::print::Outcome as PrintOutcome;
-use image::print::print;
 use layout::Found;
+use loader::load;
 use machine::Machine;
 use machine::Outcome;
+use printer::print;
 ghost use Prim.Native.Nat.{_≤_, _^_};
 ghost use mathlib.Core.Path.{_≡_};
 ghost use Rattle.machine.specs.Answered.{recordOf, numberOf, lent};
-ghost use Rattle.image.specs.Load.{numberOf as Load·numberOf, lineOf};
-ghost use Rattle.image.specs.Printing.{numberOf as Printing·numberOf, lengthOf};
 ghost use Rattle.jennydusk.specs.Calls.{left, kept, counted, shown, loadCall, stepCall, runCall, printCall};
 
 // The answer for a buffer that holds no record.
@@ -45,50 +41,6 @@ fn counted(number: u64, count: u64) -> u64
     number + 256 * count
 }
 
-// The number of a verdict: 0 where the text was accepted.
-fn refusal_of(verdict: Verdict) -> u8
-    ensures { λ r. ⌜ r ≡ Load·numberOf verdict ⌝ }
-{
-    match verdict {
-        Verdict::Accepted => 0,
-        Verdict::Refused(number, _) => number,
-    }
-}
-
-// The line of a verdict: 0 where the text was accepted.
-fn line_of(verdict: Verdict) -> u32
-    ensures { λ r. ⌜ r ≡ lineOf verdict ⌝ }
-{
-    match verdict {
-        Verdict::Accepted => 0,
-        Verdict::Refused(_, line) => line,
-    }
-}
-
-// The number of a print's outcome: 0 where the listing was written.
-fn print_number_of(outcome: PrintOutcome) -> u64
-    ensures { λ r. ⌜ r ≡ Printing·numberOf outcome ⌝ }
-{
-    match outcome {
-        PrintOutcome::Written(_) => 0,
-        PrintOutcome::IllFormed => 7,
-        PrintOutcome::ShortMemory => 6,
-        PrintOutcome::ShortOutput => 8,
-    }
-}
-
-// The listing's length: 0 where none was written.
-fn length_of(outcome: PrintOutcome) -> usize
-    ensures { λ r. ⌜ r ≡ lengthOf outcome ⌝ }
-{
-    match outcome {
-        PrintOutcome::Written(length) => length,
-        PrintOutcome::IllFormed => 0,
-        PrintOutcome::ShortMemory => 0,
-        PrintOutcome::ShortOutput => 0,
-    }
-}
-
 // Loads a text: the record goes to its buffer, and the memory to words and labels.
 #[no_mangle]
 pub extern "C" fn jennydusk_load(
@@ -105,9 +57,10 @@ pub extern "C" fn jennydusk_load(
     let loaded = load(text, words, labels);
     let verdict = loaded.verdict;
     let machine = loaded.machine;
-    let number = refusal_of(verdict) as u64;
+    let number = verdict.number() as u64;
+    let line = verdict.line() as u64;
     keep(number, machine, record);
-    counted(number, line_of(verdict) as u64)
+    counted(number, line)
 }
 
 // One step of the record.
@@ -166,5 +119,7 @@ pub extern "C" fn jennydusk_print(
     let machine = reading.machine;
     let printed = print(machine, words, labels, out);
     let outcome = printed.outcome;
-    counted(print_number_of(outcome), length_of(outcome) as u64)
+    let number = outcome.number() as u64;
+    let bytes = outcome.bytes() as u64;
+    counted(number, bytes)
 }

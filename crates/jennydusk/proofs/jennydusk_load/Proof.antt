@@ -16,20 +16,20 @@ returns c = rw (lt-leb 76 _ (c .if1 .taken)) refl
 load-requires : tie.Need-load-requires
 load-requires c κs = search needs
 
-refusal-of-requires : tie.Need-refusal-of-requires
-refusal-of-requires c κs = search needs
+number-requires : tie.Need-number-requires
+number-requires c κs = search needs
 
 cast-number : tie.Need-cast-number
 cast-number c = search needs
 
+line-requires : tie.Need-line-requires
+line-requires c κs = search needs
+
+cast-line : tie.Need-cast-line
+cast-line c = search needs
+
 keep-requires : tie.Need-keep-requires
 keep-requires c κs = search needs
-
-line-of-requires : tie.Need-line-of-requires
-line-of-requires c κs = search needs
-
-cast-counted : tie.Need-cast-counted
-cast-counted c = search needs
 
 counted-requires : tie.Need-counted-requires
 counted-requires c κs = search needs
@@ -46,15 +46,15 @@ same-length-3 c = search needs
 returns-2 : tie.Need-returns-2
 unfolding loadCall
 returns-2 c =
-    let kept = c .before .before .before .before in
-    let judged = kept .before .before in
+    let kept = c .before .before .before in
+    let judged = kept .before .before .before in
     let loading = judged .before .before .before .before .before .before in
     let long = loading .before .before .before in
     let start = long .before .before .before .before .before in
     rw (le-leb 76 _ (long .if1 .left))
     (was-loaded (start .args .text .now) (lent (start .args .words .now) (start .args .labels .now))
-    (start .args .«record» .now) (loading .load .result) (loading .load .ensures) (judged .refusal-of .ensures)
-    (c .before .line-of .ensures) (kept .keep .ensures) (c .counted .ensures))
+    (start .args .«record» .now) (loading .load .result) (loading .load .ensures) (judged .number .ensures)
+    (kept .before .before .line .ensures) (kept .keep .ensures) (c .counted .ensures))
 
 pub jennydusk-load-spec : {M : Type 1} → statement M
 jennydusk-load-spec =
@@ -62,11 +62,11 @@ jennydusk-load-spec =
     (tie.spec
     returns
     load-requires
-    refusal-of-requires
+    number-requires
     cast-number
+    line-requires
+    cast-line
     keep-requires
-    line-of-requires
-    cast-counted
     counted-requires
     same-length
     same-length-2

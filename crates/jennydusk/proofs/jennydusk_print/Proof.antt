@@ -29,19 +29,22 @@ enum-told-2 c = search needs
 print-requires : tie.Need-print-requires
 print-requires c κs = search needs
 
-print-number-of-requires : tie.Need-print-number-of-requires
-print-number-of-requires c κs = search needs
+number-requires : tie.Need-number-requires
+number-requires c κs = search needs
 
-length-of-requires : tie.Need-length-of-requires
-length-of-requires c κs = search needs
+cast-number : tie.Need-cast-number
+cast-number c = search needs
+
+bytes-requires : tie.Need-bytes-requires
+bytes-requires c κs = search needs
 
 counted-requires : tie.Need-counted-requires
 counted-requires c κs =
     let written = c .before .before .before .before in
     let reading = written .before .before .before .before .before in
     let start = reading .before .before .before .before .before in (
-      rw (c .before .print-number-of .ensures) (small-number (written .print .result .outcome)),
-      rw (c .length-of .ensures)
+      rw (c .before .number .ensures) (small-number (written .print .result .outcome)),
+      rw (c .bytes .ensures)
           (small-length (recordOf (reading .read .result .machine)) (lent (start .args .words .now) (start .args .labels .now))
           (start .args .out .now) (written .print .result) _ (written .print .ensures)),
     )
@@ -58,7 +61,7 @@ returns-2 c =
     let start = reading .before .before .before .before .before in
     was-printed (lent (start .args .words .now) (start .args .labels .now)) (start .args .out .now) (reading .read .result)
     (machineIn (start .args .«record» .now)) (written .print .result) (reading .read .ensures) (found .enum-told2 .given .1)
-    (written .print .ensures) (c .before .before .print-number-of .ensures) (c .before .length-of .ensures) (c .counted .ensures)
+    (written .print .ensures) (c .before .before .number .ensures) (c .before .bytes .ensures) (c .counted .ensures)
 
 pub jennydusk-print-spec : {M : Type 1} → statement M
 jennydusk-print-spec =
@@ -69,8 +72,9 @@ jennydusk-print-spec =
     returns
     enum-told-2
     print-requires
-    print-number-of-requires
-    length-of-requires
+    number-requires
+    cast-number
+    bytes-requires
     counted-requires
     same-length
     returns-2)

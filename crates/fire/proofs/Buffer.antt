@@ -1,0 +1,63 @@
+-- What the program prints fits its buffer: every reply takes at most 46,438 bytes, for every text and every memory, so
+-- that an output of 65,536 bytes is never too short.
+-- Assumes nothing.
+use Prim.Native.Nat.{ℕ, _≤_}
+use mathlib.Core.Path.{_≡_}
+use mathlib.Core.List.{List, [], _∷_, _++_}
+use native.Mathlib.Omega.{arith}
+use lib.Dec.{eqb}
+use lib.ListN.{length, drop}
+use borrow.Author.Tests.{le-leb, eqb-true}
+use Rattle.model.specs.Record.{Bank, State}
+use Rattle.model.specs.Step.{run}
+use Rattle.model.specs.Load.{load}
+use Rattle.model.specs.Listing.{listing}
+use Rattle.model.specs.Program.{stateOfLoad, reply, memoryAfter, fire}
+use Rattle.model.proofs.Truth.{choice}
+use Rattle.model.proofs.Step.{Ready}
+use Rattle.model.proofs.Run.{run-leaves}
+use Rattle.model.proofs.Program.{load-ready, run-load-ready}
+use Rattle.text.proofs.Fields.{line-most}
+use Rattle.printer.proofs.Lines.{head-most, entries-most, listing-length}
+use Rattle.printer.proofs.Bound.{entries-bound}
+use Rattle.fire.proofs.WordLabels.{Bytes, run-labels, load-bytes}
+
+-- The listing of a ready state whose word labels are bytes: 342 bytes for the E and F lines, 65 for each R line and 22
+-- for each W line are enough.
+ready-bound : (s : State) → Ready s → Bytes (s .fixed .size) (s .memory .labels) → length (listing s) ≤ 46438
+ready-bound s r b =
+    rw (listing-length s)
+    (omega (
+      arith,
+      head-most (s .control),
+      entries-most 82 (s .registers) 0 16,
+      entries-bound 87 (s .memory) 3 (s .fixed .size) (record { values = r .typed .words; labels = b .below })
+          (omega (arith, r .fit .fixed .sizeHigh)),
+      r .fit .fixed .sizeHigh,
+    ))
+
+-- The listing after the run of an accepted text.
+run-bound : (text : List ℕ) (m : Bank) → load text m .number ≡ 0 → length (listing (run (stateOfLoad (load text m)))) ≤ 46438
+run-bound text m e =
+    let s = stateOfLoad (load text m) in
+    let f = run-leaves s (load-ready text m e) .fixed in
+    ready-bound (run s) (run-load-ready text m e) (rw (f, run-labels s) (load-bytes text m))
+
+-- A reply: that listing, or a refusal's line.
+pub reply-bound : (text : List ℕ) (m : Bank) → length (reply (load text m)) ≤ 46438
+unfolding reply
+reply-bound text m =
+    let a = load text m in
+    choice (λ (o : List ℕ). length o ≤ 46438) (eqb (a .number) 0) _ _ (λ e. run-bound text m (eqb-true (a .number) 0 e))
+    (λ e. omega (arith, line-most 88 (a .number ∷ a .line ∷ [])))
+
+-- So an output of 65,536 bytes gets the reply whole.
+pub whole-reply : (text : List ℕ) (m : Bank) (out : List ℕ) → 65536 ≤ length out
+    → fire text m out
+    ≡ record {
+      bytes = length (reply (load text m));
+      output = reply (load text m) ++ drop (length (reply (load text m))) out;
+      memory = memoryAfter (load text m);
+    }
+unfolding fire
+whole-reply text m out h = rw (le-leb (length (reply (load text m))) (length out) (omega (arith, reply-bound text m)))

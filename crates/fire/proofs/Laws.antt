@@ -1,0 +1,63 @@
+-- From what load, run, print and the line writer promise to what `fire` promises.
+-- Assumes nothing.
+use Prim.Native.Nat.{ℕ, _<_, _≤_}
+use mathlib.Core.Path.{_≡_, refl, sym, ap, _∙_}
+use mathlib.Core.Bool.{Bool, true, false, cond}
+use mathlib.Core.List.{List, [], _∷_, _++_}
+use native.Mathlib.Omega.{arith}
+use lib.Dec.{leb}
+use lib.ListN.{length, drop}
+use borrow.Author.Tests.{ne-eqb}
+use Rattle.model.specs.Record.{Bank}
+use Rattle.model.specs.Step.{run}
+use Rattle.model.specs.Answer.{Answer, runAnswer}
+use Rattle.model.specs.Load.{Loading, load}
+use Rattle.model.specs.Listing.{line, listing, Printing, print}
+use Rattle.model.specs.Program.{stateOfLoad, reply, memoryAfter, Firing, fire}
+use Rattle.model.proofs.Program.{run-done, print-done, load-ready, run-load-ready}
+use Rattle.text.specs.Writing.{Writing, answer, over, writing}
+
+-- What was printed, and the memory, as a firing.
+abbrev printed : Printing → Bank → Firing
+printed p m = record { bytes = p .bytes; output = p .output; memory = m }
+
+-- What the line writer wrote, and the memory, as a firing.
+abbrev wrote : Writing → Bank → Firing
+wrote w m = record { bytes = w .count; output = w .output; memory = m }
+
+-- Either way of a choice.
+choice-printed : (b : Bool) (p q : Printing) (m : Bank) → printed (cond b p q) m ≡ cond b (printed p m) (printed q m)
+choice-printed true p q m = refl
+choice-printed false p q m = refl
+
+choice-wrote : (b : Bool) (o out : List ℕ) (m : Bank)
+    → wrote (cond b (answer (length o) (over o out)) (answer 0 out)) m
+    ≡ cond b (record { bytes = length o; output = o ++ drop (length o) out; memory = m })
+    (record { bytes = 0; output = out; memory = m })
+unfolding over
+choice-wrote true o out m = refl
+choice-wrote false o out m = refl
+
+module _ (text : List ℕ) (m : Bank) (out : List ℕ) (a : Loading) {number : ℕ} (e : a ≡ load text m)
+    (n : number ≡ a .number)
+  where
+    -- A refused load: the line writer wrote its number and line.
+    pub refused-firing : {place : ℕ} (w : Writing) → 0 < number → place ≡ a .line
+        → w ≡ writing 88 (number ∷ place ∷ []) out → wrote w (a .memory) ≡ fire text m out
+    unfolding fire reply memoryAfter writing
+    refused-firing w h l f =
+        let o = line 88 (a .number ∷ a .line ∷ []) in
+        rw (f, l, n, ← e, ne-eqb (a .number) 0 (λ z. omega arith))
+        (choice-wrote (leb (length o) (length out)) o out (a .memory))
+
+    -- An accepted load: its state was run, and the state after the run printed.
+    pub accepted-firing : (b : Answer) (p : Printing) → number ≤ 0 → b ≡ runAnswer (a .machine) (a .memory)
+        → p ≡ print (b .machine) (b .memory) out → printed p (b .memory) ≡ fire text m out
+    unfolding fire reply memoryAfter
+    accepted-firing b p h f g =
+        let y : a .number ≡ 0 = omega arith in
+        let z : load text m .number ≡ 0 = ap (λ (x : Loading). x .number) (sym e) ∙ y in
+        let s = stateOfLoad (load text m) in
+        let i = (rw e at f) ∙ run-done s (load-ready text m z) in
+        let j = (rw i at g) ∙ print-done (run s) out (run-load-ready text m z) in
+        rw (j, i, z) (choice-printed (leb (length (listing (run s))) (length out)) _ _ (run s .memory))

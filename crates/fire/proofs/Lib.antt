@@ -1,0 +1,4 @@
+mod Laws
+mod WordLabels
+pub mod Buffer
+pub mod Fresh

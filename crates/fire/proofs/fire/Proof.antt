@@ -1,0 +1,109 @@
+-- `fire::fire` meets its contract: a refused load's line, or the listing after the run.
+-- Assumes nothing.
+use mathlib.Core.Path.{_∙_}
+use borrow.Author.Needs.{needs}
+use Rattle.machine.specs.Answered.{lent}
+use Rattle.text.specs.Writing.{answer}
+use Rattle.fire.proofs.Laws.{refused-firing, accepted-firing}
+use Rattle.fire.proofs.fire.Statement.{statement}
+use Rattle.fire.proofs.fire.Tie as tie
+
+load-requires : tie.Need-load-requires
+load-requires c κs = search needs
+
+number-requires : tie.Need-number-requires
+number-requires c κs = search needs
+
+cast-number : tie.Need-cast-number
+cast-number c = search needs
+
+line-requires : tie.Need-line-requires
+line-requires c κs = search needs
+
+cast-line : tie.Need-cast-line
+cast-line c = search needs
+
+slice-aggregate-write-line : tie.Need-slice-aggregate-write-line
+slice-aggregate-write-line c = search needs
+
+write-line-requires : tie.Need-write-line-requires
+write-line-requires c κs = search needs
+
+same-length : tie.Need-same-length
+same-length c = search needs
+
+same-length-2 : tie.Need-same-length-2
+same-length-2 c = search needs
+
+same-length-3 : tie.Need-same-length-3
+same-length-3 c = search needs
+
+returns : tie.Need-returns
+returns c =
+    let written = c .before .before in
+    let tested = written .before .before .before in
+    let loaded = tested .before .before .before .before .before .before .before in
+    let start = loaded .before .before .before .before .before .before .before in
+    refused-firing (start .args .text .now) (lent (start .args .words .now) (start .args .labels .now))
+    (start .args .out .now) _ (loaded .load .ensures) (tested .before .before .number .ensures)
+    (answer (written .write-line .result) (written .write-line .last .0)) (tested .if1 .taken)
+    (tested .before .line .ensures) (written .write-line .ensures)
+
+run-requires : tie.Need-run-requires
+run-requires c κs = search needs
+
+print-requires : tie.Need-print-requires
+print-requires c κs = search needs
+
+bytes-requires : tie.Need-bytes-requires
+bytes-requires c κs = search needs
+
+same-length-4 : tie.Need-same-length-4
+same-length-4 c =
+    let ran = c .before .before .before .before .before .before .before .before .before .before .before .before in
+    let loaded = ran .before .before .before .before .before .before .before .before .before .before .before in
+    ran .run .kept .1 .0 ∙ loaded .load .kept .1 .0
+
+same-length-5 : tie.Need-same-length-5
+same-length-5 c =
+    let ran = c .before .before .before .before .before .before .before .before .before .before .before .before in
+    let loaded = ran .before .before .before .before .before .before .before .before .before .before .before in
+    ran .run .kept .1 .1 .0 ∙ loaded .load .kept .1 .1 .0
+
+same-length-6 : tie.Need-same-length-6
+same-length-6 c = search needs
+
+returns-2 : tie.Need-returns-2
+returns-2 c =
+    let printed = c .before .before .before in
+    let ran = printed .before .before .before .before .before .before .before .before .before in
+    let tested = ran .before .before .before .before in
+    let loaded = tested .before .before .before .before .before .before .before in
+    let start = loaded .before .before .before .before .before .before .before in
+    rw (c .bytes .ensures)
+    (accepted-firing (start .args .text .now) (lent (start .args .words .now) (start .args .labels .now))
+    (start .args .out .now) _ (loaded .load .ensures) (tested .before .before .number .ensures) _ _ (tested .if1 .left)
+    (ran .run .ensures) (printed .print .ensures))
+
+pub fire-spec : {M : Type 1} → statement M
+fire-spec =
+    tie.close
+    (tie.spec
+    load-requires
+    number-requires
+    cast-number
+    line-requires
+    cast-line
+    slice-aggregate-write-line
+    write-line-requires
+    same-length
+    same-length-2
+    same-length-3
+    returns
+    run-requires
+    print-requires
+    bytes-requires
+    same-length-4
+    same-length-5
+    same-length-6
+    returns-2)

@@ -1,0 +1,133 @@
+-- The lines of a text: its first line and the lines of the rest, judged or written one by one.
+-- Assumes nothing.
+use Prim.Native.Nat.{ℕ, zero, suc, _≤_, _<_}
+use mathlib.Core.Path.{_≡_, refl, sym, ap, _∙_}
+use mathlib.Core.Bool.{true}
+use mathlib.Core.List.{List, [], _∷_}
+use native.Mathlib.Nat.{le-refl}
+use native.Mathlib.Omega.{arith}
+use lib.ListN.{length, drop, length-drop}
+use Rattle.model.specs.declared.format.Line.{Line}
+use Rattle.model.specs.declared.format.Line.the-variants.{M, G, R, W, Malformed}
+use Rattle.model.specs.Record.{Bank}
+use Rattle.model.specs.Text.{readLine, onwards, linesIn, lines}
+use Rattle.model.specs.Load.{Progress, judge, fill, entryInRange}
+use Rattle.model.proofs.Truth.{and-iff, clash}
+use Rattle.text.proofs.read.Laws.{sized}
+use Rattle.loader.specs.Load.{storable}
+
+-- ---- the first line and the lines of the rest
+
+-- The lines behind a line matter only where it isn't malformed.
+onwards-same : (l : Line) (ls ms : List Line) → ((l ≡ Malformed → ⊥) → ls ≡ ms) → onwards l ls ≡ onwards l ms
+onwards-same (M a b c d e f) ls ms h =
+    ap (λ (r : List Line). M a b c d e f ∷ r) (h (λ x. let z : _≡_ {A = ℕ} 0 1 = cc in omega arith))
+onwards-same (G a b c) ls ms h =
+    ap (λ (r : List Line). G a b c ∷ r) (h (λ x. let z : _≡_ {A = ℕ} 0 1 = cc in omega arith))
+onwards-same (R a b c) ls ms h =
+    ap (λ (r : List Line). R a b c ∷ r) (h (λ x. let z : _≡_ {A = ℕ} 0 1 = cc in omega arith))
+onwards-same (W a b c) ls ms h =
+    ap (λ (r : List Line). W a b c ∷ r) (h (λ x. let z : _≡_ {A = ℕ} 0 1 = cc in omega arith))
+onwards-same Malformed ls ms h = refl
+
+-- An empty text has no lines.
+none : (k : ℕ) → linesIn k [] ≡ []
+unfolding linesIn
+none zero = refl
+none (suc k) = refl
+
+-- What is behind a line is shorter, unless the line is malformed.
+shorter : (b : ℕ) (xs : List ℕ) (k : ℕ) → length (b ∷ xs) ≤ suc k → (readLine (b ∷ xs) .line ≡ Malformed → ⊥)
+    → length (drop (readLine (b ∷ xs) .next) (b ∷ xs)) ≤ k
+shorter b xs k h m =
+    omega (arith, length-drop (readLine (b ∷ xs) .next) (b ∷ xs), sized (b ∷ xs) .moves m, sized (b ∷ xs) .within)
+
+-- As many lines as there are bytes are enough: more give the same.
+pub enough : (j k : ℕ) (xs : List ℕ) → length xs ≤ j → length xs ≤ k → linesIn j xs ≡ linesIn k xs
+unfolding linesIn
+enough zero k [] h g = sym (none k)
+enough zero k (b ∷ xs) h g = absurd (omega arith)
+enough (suc j) k [] h g = sym (none k)
+enough (suc j) zero (b ∷ xs) h g = absurd (omega arith)
+enough (suc j) (suc k) (b ∷ xs) h g =
+    onwards-same (readLine (b ∷ xs) .line) _ _
+    (λ m. enough j k (drop (readLine (b ∷ xs) .next) (b ∷ xs)) (shorter b xs j h m) (shorter b xs k g m))
+
+-- The lines of a text that isn't empty: its first line and the lines of the rest.
+pub lines-first : (xs : List ℕ) → 0 < length xs
+    → lines xs ≡ onwards (readLine xs .line) (lines (drop (readLine xs .next) xs))
+unfolding lines linesIn
+lines-first [] h = absurd (omega arith)
+lines-first (b ∷ xs) h =
+    onwards-same (readLine (b ∷ xs) .line) _ _
+    (λ m.
+    enough (length xs) (length (drop (readLine (b ∷ xs) .next) (b ∷ xs))) (drop (readLine (b ∷ xs) .next) (b ∷ xs))
+    (shorter b xs (length xs) (le-refl _) m)
+    (le-refl _))
+
+-- ---- judged
+
+-- A malformed line is refused whatever is behind it.
+judge-onwards : (g : Progress) (n : ℕ) (l : Line) (ls : List Line) → judge g n (onwards l ls) ≡ judge g n (l ∷ ls)
+unfolding judge
+judge-onwards g n (M a b c d e f) ls = refl
+judge-onwards g n (G a b c) ls = refl
+judge-onwards g n (R a b c) ls = refl
+judge-onwards g n (W a b c) ls = refl
+judge-onwards g n Malformed ls = refl
+
+-- A text is judged by its first line, then the lines of the rest.
+pub judge-first : (g : Progress) (n : ℕ) (xs : List ℕ) → 0 < length xs
+    → judge g n (lines xs) ≡ judge g n (readLine xs .line ∷ lines (drop (readLine xs .next) xs))
+judge-first g n xs h =
+    ap (judge g n) (lines-first xs h) ∙ judge-onwards g n (readLine xs .line) (lines (drop (readLine xs .next) xs))
+
+-- ---- written
+
+-- The first line, where all lines may be written.
+pub record First (size : ℕ) (l : Line) (ls : List Line) : Type 0 where
+  pub good : l ≡ Malformed → ⊥
+  pub this : storable size (l ∷ []) ≡ true
+  pub rest : storable size ls ≡ true
+
+-- The same of a line and the lines behind it.
+storable-onwards : (size : ℕ) (l : Line) (ls : List Line) → storable size (onwards l ls) ≡ true → First size l ls
+unfolding storable
+storable-onwards size (M a b c d e f) ls h =
+    record { good = λ x. let z : _≡_ {A = ℕ} 0 1 = cc in omega arith; this = refl; rest = h }
+storable-onwards size (G a b c) ls h =
+    record { good = λ x. let z : _≡_ {A = ℕ} 0 1 = cc in omega arith; this = refl; rest = h }
+storable-onwards size (R a b c) ls h =
+    record { good = λ x. let z : _≡_ {A = ℕ} 0 1 = cc in omega arith; this = refl; rest = h }
+storable-onwards size (W k l v) ls h =
+    let both : (entryInRange size k l v ≡ true) × (storable size ls ≡ true) =
+    and-iff (entryInRange size k l v) (storable size ls) .0 h in
+    record {
+      good = λ x. let z : _≡_ {A = ℕ} 0 1 = cc in omega arith;
+      this = and-iff (entryInRange size k l v) true .1 (both .0, refl);
+      rest = both .1;
+    }
+storable-onwards size Malformed ls h = clash h refl
+
+-- Where all lines of a text may be written, so may its first, and the lines of the rest.
+pub storable-first : (size : ℕ) (xs : List ℕ) → 0 < length xs → storable size (lines xs) ≡ true
+    → First size (readLine xs .line) (lines (drop (readLine xs .next) xs))
+storable-first size xs h e =
+    storable-onwards size (readLine xs .line) (lines (drop (readLine xs .next) xs))
+    (ap (storable size) (sym (lines-first xs h)) ∙ e)
+
+-- A line is written, then those behind it.
+fill-onwards : (l : Line) (ls : List Line) (m : Bank) → (l ≡ Malformed → ⊥) → fill (onwards l ls) m ≡ fill ls (fill (l ∷ []) m)
+unfolding fill
+fill-onwards (M a b c d e f) ls m h = refl
+fill-onwards (G a b c) ls m h = refl
+fill-onwards (R a b c) ls m h = refl
+fill-onwards (W a b c) ls m h = refl
+fill-onwards Malformed ls m h = absurd (h refl)
+
+-- A text is written by its first line, then the lines of the rest.
+pub fill-first : (xs : List ℕ) (m : Bank) → 0 < length xs → (readLine xs .line ≡ Malformed → ⊥)
+    → fill (lines xs) m ≡ fill (lines (drop (readLine xs .next) xs)) (fill (readLine xs .line ∷ []) m)
+fill-first xs m h g =
+    ap (λ (ls : List Line). fill ls m) (lines-first xs h)
+    ∙ fill-onwards (readLine xs .line) (lines (drop (readLine xs .next) xs)) m g

@@ -1,0 +1,210 @@
+-- The two passes over the lines: what holds at each line, judged or written, and of the memory while it is cleared.
+-- Assumes nothing.
+use Prim.Native.Nat.{ℕ, _+_, _-_, _≤_, _<_}
+use mathlib.Core.Path.{_≡_, refl, sym, ap, _∙_}
+use mathlib.Core.Bool.{true, _&&_}
+use mathlib.Core.List.{List, [], _∷_, _++_}
+use native.Mathlib.Omega.{arith}
+use borrow.Author.Fill.{fill-none, fill-more}
+use borrow.Author.Tests.{lt-ltb, eq-eqb, ne-eqb}
+use lib.Dec.{ltb, eqb}
+use lib.ListN.{length, take, drop, set, replicate, length-drop, length-set, drop-of-length-le}
+use lib.Seq.{drop-drop}
+use Rattle.labels.specs.Label.{lowest}
+use Rattle.model.specs.declared.format.Line.{Line}
+use Rattle.model.specs.declared.format.Line.the-variants.{M, G, R, W, Malformed}
+use Rattle.model.specs.declared.format.Read.{Read}
+use Rattle.model.specs.Record.{Bank}
+use Rattle.model.specs.Ops.{isLabel}
+use Rattle.model.specs.Text.{readLine, linesIn, lines}
+use Rattle.model.specs.Load.{Progress, refuse, accept, judge, fill, cleared, entryInRange}
+use Rattle.model.proofs.Truth.{and-iff}
+use Rattle.text.proofs.read.Laws.{part, sized}
+use Rattle.loader.specs.declared.Tried.{Tried}
+use Rattle.loader.specs.Load.{progressOf, afterwards, storable, bank}
+use Rattle.loader.proofs.Lines.{First, judge-first, storable-first, fill-first}
+use Rattle.loader.proofs.Judging.{EntryRange, entry-range}
+
+-- ---- a line that was read
+
+-- The line read at `at` is the first of the rest of the text.
+pub record At (text : List ℕ) (at : ℕ) (r : Read) : Type 0 where
+  pub more : 0 < length (drop at text)
+  pub reads : readLine (drop at text) ≡ r
+  pub within : at + r .next ≤ length text
+  pub behind : drop (r .next) (drop at text) ≡ drop (at + r .next) text
+
+-- The reader is lent the part of the text from `at` on.
+pub read-at : (text : List ℕ) (at : ℕ) (r : Read) → at < length text
+    → r ≡ readLine (take (length text - at) (drop at text)) → At text at r
+read-at text at r h e =
+    let q : readLine (drop at text) ≡ r = ap readLine (sym (part at text)) ∙ sym e in
+    let w : r .next ≤ length (drop at text) = rw q at (sized (drop at text) .within) in
+    record {
+      more = omega (arith, length-drop at text);
+      reads = q;
+      within = omega (arith, length-drop at text);
+      behind = drop-drop (r .next) at text;
+    }
+
+-- A line that isn't malformed takes a byte at least.
+pub moves : (text : List ℕ) (at : ℕ) (r : Read) → At text at r → (r .line ≡ Malformed → ⊥) → 1 ≤ r .next
+moves text at r a m = rw (a .reads) at (sized (drop at text) .moves) m
+
+-- Behind the text there are no lines.
+pub no-lines : (text : List ℕ) (at : ℕ) → length text ≤ at → lines (drop at text) ≡ []
+unfolding lines linesIn
+no-lines text at h = rw (drop-of-length-le text h)
+
+-- ---- the first pass
+
+-- The lines from `at` on, the first of which is line n, are still to be judged.
+pub record Judged (text : List ℕ) (start : ℕ) (g₀ g : Progress) (at n : ℕ) : Type 0 where
+  pub counted : n ≤ at + 2
+  pub same : judge g n (lines (drop at text)) ≡ judge g₀ 2 (lines (drop start text))
+
+-- What is said of the trial of a line.
+abbrev pub Trial : Progress → Line → Tried → Type 0
+Trial g l t = (n : ℕ) (ls : List Line) → judge g n (l ∷ ls) ≡ afterwards t n ls
+
+-- A line that is accepted isn't malformed.
+pub accepted-good : (g : Progress) (l : Line) (t : Tried) → Trial g l t → t .refusal ≤ 0 → l ≡ Malformed → ⊥
+unfolding judge afterwards
+accepted-good g l t h z m =
+    let c : t .refusal ≡ 0 = omega arith in
+    let e : refuse 2 0 ≡ accept (progressOf (t .progress) .machine) =
+    sym (ap (λ (k : Line). judge g 0 (k ∷ [])) m) ∙ h 0 [] ∙ rw c in
+    let x : _≡_ {A = ℕ} 0 1 = cc in
+    omega arith
+
+module _ (text : List ℕ) (start : ℕ) (g₀ g : Progress) (at n : ℕ) (r : Read) (t : Tried) (a : At text at r)
+    (h : Trial g (r .line) t) (j : Judged text start g₀ g at n) where
+  -- The verdict goes by the trial of this line.
+  judged-here : afterwards t n (lines (drop (at + r .next) text)) ≡ judge g₀ 2 (lines (drop start text))
+  judged-here =
+      sym (h n (lines (drop (at + r .next) text)))
+      ∙ ap (λ (ls : List ℕ). judge g n (r .line ∷ lines ls)) (sym (a .behind))
+      ∙ ap (λ (q : Read). judge g n (q .line ∷ lines (drop (q .next) (drop at text)))) (sym (a .reads))
+      ∙ sym (judge-first g n (drop at text) (a .more))
+      ∙ j .same
+
+  -- The line is accepted.
+  pub judged-more : t .refusal ≤ 0 → Judged text start g₀ (progressOf (t .progress)) (at + r .next) (n + 1)
+  unfolding afterwards
+  judged-more z =
+      let c : eqb (t .refusal) 0 ≡ true = eq-eqb (t .refusal) 0 (omega arith) in
+      record {
+        counted = omega (arith, j .counted, moves text at r a (accepted-good g (r .line) t h z));
+        same = rw c at judged-here;
+      }
+
+  -- The line is refused.
+  pub judged-refused : 0 < t .refusal → refuse (t .refusal) n ≡ judge g₀ 2 (lines (drop start text))
+  unfolding afterwards
+  judged-refused z = rw (ne-eqb (t .refusal) 0 (λ e. omega arith)) at judged-here
+
+-- All lines are accepted.
+pub judged-end : (text : List ℕ) (start : ℕ) (g₀ g : Progress) (at n : ℕ) → Judged text start g₀ g at n → length text ≤ at
+    → accept (g .machine) ≡ judge g₀ 2 (lines (drop start text))
+unfolding judge
+judged-end text start g₀ g at n j h = rw (no-lines text at h) at (j .same)
+
+-- ---- the second pass
+
+-- A line that may be written below a size may be written below a larger one.
+pub storable-wider : (a b : ℕ) (l : Line) → a ≤ b → storable a (l ∷ []) ≡ true → storable b (l ∷ []) ≡ true
+unfolding storable entryInRange isLabel
+storable-wider a b (M _ _ _ _ _ _) h e = e
+storable-wider a b (G _ _ _) h e = e
+storable-wider a b (R _ _ _) h e = e
+storable-wider a b (W k l v) h e =
+    let i = and-iff (ltb k a && ltb l 256 && ltb v 4294967296) true .0 e in
+    let r : EntryRange a k l v = entry-range a k l v (i .0) in
+    rw (lt-ltb k b (omega (arith, r .below)), lt-ltb l 256 (r .label), lt-ltb v 4294967296 (r .value))
+storable-wider a b Malformed h e = e
+
+-- The numbers of a W line that may be written.
+pub stored-range : (n : ℕ) (line : Line) (k l v : ℕ) → storable n (line ∷ []) ≡ true → line ≡ W k l v → EntryRange n k l v
+unfolding storable
+stored-range n line k l v e q =
+    entry-range n k l v (and-iff (entryInRange n k l v) true .0 (ap (λ (x : Line). storable n (x ∷ [])) (sym q) ∙ e) .0)
+
+-- Only a W line is written.
+pub not-stored : (l : Line) (m : Bank) → ((a b c : ℕ) → l ≡ W a b c → ⊥) → m ≡ fill (l ∷ []) m
+unfolding fill
+not-stored (M _ _ _ _ _ _) m h = refl
+not-stored (G _ _ _) m h = refl
+not-stored (R _ _ _) m h = refl
+not-stored (W a b c) m h = absurd (h a b c refl)
+not-stored Malformed m h = refl
+
+-- The lines from `at` on are still to be written.
+pub record Written (text : List ℕ) (start size : ℕ) (w₀ l₀ w l : List ℕ) (at : ℕ) : Type 0 where
+  pub rest : storable size (lines (drop at text)) ≡ true
+  pub words : length w ≡ length w₀
+  pub labels : length l ≡ length l₀
+  pub same : fill (lines (drop at text)) (bank w l) ≡ fill (lines (drop start text)) (bank w₀ l₀)
+
+module _ (text : List ℕ) (start size : ℕ) (w₀ l₀ w l : List ℕ) (at : ℕ) (r : Read) (a : At text at r)
+    (j : Written text start size w₀ l₀ w l at) where
+  -- This line may be written, and the lines behind it.
+  pub written-line : First size (r .line) (lines (drop (at + r .next) text))
+  written-line =
+      rw (← a .behind) (rw (a .reads) at (storable-first size (drop at text) (a .more) (j .rest)))
+
+  -- This line is written.
+  pub written-more : (w′ l′ : List ℕ) → bank w′ l′ ≡ fill (r .line ∷ []) (bank w l) → length w′ ≡ length w
+      → length l′ ≡ length l → Written text start size w₀ l₀ w′ l′ (at + r .next)
+  written-more w′ l′ e p q =
+      record {
+        rest = written-line .rest;
+        words = p ∙ j .words;
+        labels = q ∙ j .labels;
+        same =
+            ap (fill (lines (drop (at + r .next) text))) e
+            ∙ ap (λ (xs : List ℕ). fill (lines xs) (fill (r .line ∷ []) (bank w l))) (sym (a .behind))
+            ∙ ap (λ (x : Read). fill (lines (drop (x .next) (drop at text))) (fill (x .line ∷ []) (bank w l))) (sym (a .reads))
+            ∙ sym
+            (fill-first (drop at text) (bank w l) (a .more)
+            (λ m. written-line .good (ap (λ (x : Read). x .line) (sym (a .reads)) ∙ m)))
+            ∙ j .same;
+      }
+
+-- All lines are written.
+pub written-end : (text : List ℕ) (start size : ℕ) (w₀ l₀ w l : List ℕ) (at : ℕ)
+    → Written text start size w₀ l₀ w l at → length text ≤ at → bank w l ≡ fill (lines (drop start text)) (bank w₀ l₀)
+unfolding fill
+written-end text start size w₀ l₀ w l at j h = rw (no-lines text at h) at (j .same)
+
+-- ---- the memory cleared
+
+-- The first i elements are v, up to a size.
+pub record Blank (v : ℕ) (xs₀ xs : List ℕ) (size i : ℕ) : Type 0 where
+  pub within : i ≤ size
+  pub blank : xs ≡ replicate i v ++ drop i xs₀
+  pub whole : length xs ≡ length xs₀
+
+-- None yet.
+pub blank-none : (v : ℕ) (xs : List ℕ) (size : ℕ) → Blank v xs xs size 0
+blank-none v xs size = record { within = omega arith; blank = fill-none xs v; whole = refl }
+
+-- One more.
+pub blank-more : (v : ℕ) (xs₀ xs : List ℕ) (size i : ℕ) → Blank v xs₀ xs size i → i < size → size ≤ length xs₀
+    → Blank v xs₀ (set xs i v) size (i + 1)
+blank-more v xs₀ xs size i b h g =
+    record {
+      within = omega arith;
+      blank = ap (λ (x : List ℕ). set x i v) (b .blank) ∙ fill-more i v xs₀ (omega arith);
+      whole = length-set xs i v ∙ b .whole;
+    }
+
+-- All below the size.
+pub blank-end : (v : ℕ) (xs₀ xs : List ℕ) (size i : ℕ) → Blank v xs₀ xs size i → size ≤ i
+    → xs ≡ replicate size v ++ drop size xs₀
+blank-end v xs₀ xs size i b h = let e : i ≡ size = omega (arith, b .within) in b .blank ∙ rw e
+
+-- Words and labels are blank below the size.
+pub blank-both : (w₀ l₀ w l : List ℕ) (size : ℕ) → w ≡ replicate size 0 ++ drop size w₀
+    → l ≡ replicate size lowest ++ drop size l₀ → bank w l ≡ cleared size (bank w₀ l₀)
+unfolding cleared
+blank-both w₀ l₀ w l size p q = rw (p, q)

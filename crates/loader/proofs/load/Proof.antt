@@ -1,0 +1,224 @@
+-- `loader::load` meets its contract: one case for each refusal, and the accepted text.
+-- Assumes nothing.
+use mathlib.Core.Logic.{⊎-elim}
+use mathlib.Core.Path.{refl}
+use native.Mathlib.Omega.{arith}
+use borrow.Author.Needs.{needs}
+use Rattle.loader.proofs.Answer.{fails, passes, refused-loading, header-of, no-header-cause, not-long, load-1, load-2, load-header, load-refused, load-lent, load-storable, load-accepted}
+use Rattle.loader.proofs.Judging.{header-range}
+use Rattle.loader.proofs.load.Statement.{statement}
+use Rattle.loader.proofs.load.Tie as tie
+
+refused-requires : tie.Need-refused-requires
+refused-requires c κs = search needs
+
+returns : tie.Need-returns
+returns c = refused-loading _ _ _ _ _ _ (c .refused .ensures) (load-1 _ _ (fails _ _ refl (c .before .if1 .taken)))
+
+read-line-requires : tie.Need-read-line-requires
+read-line-requires c κs = search needs
+
+enum-known-first : tie.Need-enum-known-first
+enum-known-first c = search needs
+
+refused-requires-2 : tie.Need-refused-requires-2
+refused-requires-2 c κs = search needs
+
+returns-2 : tie.Need-returns-2
+returns-2 c =
+    refused-loading _ _ _ _ _ _ (c .refused2 .ensures)
+    (load-2 _ _ _ (passes _ _ refl (c .before .before .before .if1 .left)) (c .before .before .read-line .ensures)
+    (λ a b d e f g q. ⊎-elim (λ x. omega arith)
+    (⊎-elim (λ x. omega arith) (⊎-elim (λ x. omega arith) (λ x. omega arith)))
+    (rw q at (c .before .match .keys2))))
+
+header-refusal-requires : tie.Need-header-refusal-requires
+header-refusal-requires c κs = search needs
+
+refused-requires-3 : tie.Need-refused-requires-3
+refused-requires-3 c κs = search needs
+
+returns-3 : tie.Need-returns-3
+returns-3 c =
+    refused-loading _ _ _ _ _ _ (c .refused3 .ensures)
+    (load-header _
+    (c .before .before .before .before .before .before .before .before .before .before .before .args .words .now)
+    (c .before .before .before .before .before .before .before .before .before .before .before .args .labels .now)
+    _ _ _ _ _ _ _
+    (header-of _ _ _ _ _ _ _ _
+    (passes _ _ refl (c .before .before .before .before .before .before .before .if1 .left))
+    (c .before .before .before .before .before .before .read-line .ensures)
+    (c .before .before .before .before .first .given .1))
+    _ (c .before .before .header-refusal .ensures) (c .before .if2 .taken))
+
+cast-t25 : tie.Need-cast-t25
+cast-t25 c =
+    omega (
+      arith,
+      header-range _ _ _ _ _ _
+          ((no-header-cause _ _ _ _ (c .before .header-refusal .ensures) (c .if2 .left)) .range),
+    )
+
+cast-t26 : tie.Need-cast-t26
+cast-t26 c =
+    omega (
+      arith,
+      header-range _ _ _ _ _ _
+          ((no-header-cause _ _ _ _ (c .before .header-refusal .ensures) (c .if2 .left)) .range),
+    )
+
+cast-blank-machine : tie.Need-cast-blank-machine
+cast-blank-machine c =
+    omega (
+      arith,
+      header-range _ _ _ _ _ _
+          ((no-header-cause _ _ _ _ (c .before .header-refusal .ensures) (c .if2 .left)) .range),
+    )
+
+cast-blank-machine-2 : tie.Need-cast-blank-machine-2
+cast-blank-machine-2 c =
+    omega (
+      arith,
+      header-range _ _ _ _ _ _
+          ((no-header-cause _ _ _ _ (c .before .header-refusal .ensures) (c .if2 .left)) .range),
+    )
+
+cast-blank-machine-3 : tie.Need-cast-blank-machine-3
+cast-blank-machine-3 c =
+    omega (
+      arith,
+      header-range _ _ _ _ _ _
+          ((no-header-cause _ _ _ _ (c .before .header-refusal .ensures) (c .if2 .left)) .range),
+    )
+
+cast-blank-machine-4 : tie.Need-cast-blank-machine-4
+cast-blank-machine-4 c =
+    omega (
+      arith,
+      header-range _ _ _ _ _ _
+          ((no-header-cause _ _ _ _ (c .before .header-refusal .ensures) (c .if2 .left)) .range),
+    )
+
+blank-machine-requires : tie.Need-blank-machine-requires
+blank-machine-requires c κs = search needs
+
+judge-lines-requires : tie.Need-judge-lines-requires
+judge-lines-requires c κs =
+    not-long
+    (c .before .before .before .before .before .before .before .before .before .before .before .args .text .now)
+    (passes _ _ refl (c .before .before .before .before .before .before .before .if1 .left))
+
+enum-known-verdict : tie.Need-enum-known-verdict
+enum-known-verdict c = search needs
+
+refused-requires-4 : tie.Need-refused-requires-4
+refused-requires-4 c κs = search needs
+
+returns-4 : tie.Need-returns-4
+returns-4 c =
+    refused-loading _ _ _ _ _ _ (c .refused4 .ensures)
+    (load-refused _
+    (c .before .before .before .before .before .before .before .before .before .before .before .before .before .before .before .before .args .words .now)
+    (c .before .before .before .before .before .before .before .before .before .before .before .before .before .before .before .before .args .labels .now)
+    _ _ _ _ _ _ _
+    (header-of _ _ _ _ _ _ _ _
+    (passes _ _ refl
+    (c .before .before .before .before .before .before .before .before .before .before .before .before .if1 .left))
+    (c .before .before .before .before .before .before .before .before .before .before .before .read-line .ensures)
+    (c .before .before .before .before .before .before .before .before .before .first .given .1))
+    (no-header-cause _ _ _ _ (c .before .before .before .before .before .before .before .header-refusal .ensures)
+    (c .before .before .before .before .before .before .if2 .left))
+    _ (c .before .before .before .before .before .blank-machine .ensures)
+    (c .before .before .before .before .judge-lines .result)
+    (c .before .before .before .before .judge-lines .ensures) _ _ (c .before .before .verdict .given .1))
+
+enum-told : tie.Need-enum-told
+enum-told c = search needs
+
+write-memory-requires : tie.Need-write-memory-requires
+write-memory-requires c κs = (
+  load-lent _
+      (c .before .before .before .before .before .before .before .before .before .before .before .before .before .before .before .before .args .words .now)
+      (c .before .before .before .before .before .before .before .before .before .before .before .before .before .before .before .before .args .labels .now)
+      _ _ _ _ _ _ _
+      (header-of _ _ _ _ _ _ _ _
+      (passes _ _ refl
+      (c .before .before .before .before .before .before .before .before .before .before .before .before .if1 .left))
+      (c .before .before .before .before .before .before .before .before .before .before .before .read-line .ensures)
+      (c .before .before .before .before .before .before .before .before .before .first .given .1))
+      (no-header-cause _ _ _ _ (c .before .before .before .before .before .before .before .header-refusal .ensures)
+      (c .before .before .before .before .before .before .if2 .left))
+      _ (c .before .before .before .before .before .blank-machine .ensures)
+      (c .before .before .before .before .judge-lines .result)
+      (c .before .before .before .before .judge-lines .ensures) (c .before .before .enum-told .given .1),
+  load-storable _
+      (c .before .before .before .before .before .before .before .before .before .before .before .before .before .before .before .before .args .words .now)
+      (c .before .before .before .before .before .before .before .before .before .before .before .before .before .before .before .before .args .labels .now)
+      _ _ _ _ _ _ _
+      (header-of _ _ _ _ _ _ _ _
+      (passes _ _ refl
+      (c .before .before .before .before .before .before .before .before .before .before .before .before .if1 .left))
+      (c .before .before .before .before .before .before .before .before .before .before .before .read-line .ensures)
+      (c .before .before .before .before .before .before .before .before .before .first .given .1))
+      (no-header-cause _ _ _ _ (c .before .before .before .before .before .before .before .header-refusal .ensures)
+      (c .before .before .before .before .before .before .if2 .left))
+      _ (c .before .before .before .before .before .blank-machine .ensures)
+      (c .before .before .before .before .judge-lines .result)
+      (c .before .before .before .before .judge-lines .ensures) (c .before .before .enum-told .given .1),
+)
+
+same-length : tie.Need-same-length
+same-length c = search needs
+
+same-length-2 : tie.Need-same-length-2
+same-length-2 c = search needs
+
+returns-5 : tie.Need-returns-5
+returns-5 c =
+    load-accepted _
+    (c .before .before .before .before .before .before .before .before .before .before .before .before .before .before .before .before .before .before .before .before .before .args .words .now)
+    (c .before .before .before .before .before .before .before .before .before .before .before .before .before .before .before .before .before .before .before .before .before .args .labels .now)
+    _ _ _ _ _ _ _
+    (header-of _ _ _ _ _ _ _ _
+    (passes _ _ refl
+    (c .before .before .before .before .before .before .before .before .before .before .before .before .before .before .before .before .before .if1 .left))
+    (c .before .before .before .before .before .before .before .before .before .before .before .before .before .before .before .before .read-line .ensures)
+    (c .before .before .before .before .before .before .before .before .before .before .before .before .before .before .first .given .1))
+    (no-header-cause _ _ _ _
+    (c .before .before .before .before .before .before .before .before .before .before .before .before .header-refusal .ensures)
+    (c .before .before .before .before .before .before .before .before .before .before .before .if2 .left))
+    _ (c .before .before .before .before .before .before .before .before .before .before .blank-machine .ensures)
+    (c .before .before .before .before .before .before .before .before .before .judge-lines .result)
+    (c .before .before .before .before .before .before .before .before .before .judge-lines .ensures)
+    (c .before .before .before .before .before .before .before .enum-told .given .1) _ _
+    (c .before .before .before .before .write-memory .ensures)
+
+pub load-spec : {M : Type 1} → statement M
+load-spec =
+    tie.close
+    (tie.spec
+    refused-requires
+    returns
+    read-line-requires
+    enum-known-first
+    refused-requires-2
+    returns-2
+    header-refusal-requires
+    refused-requires-3
+    returns-3
+    cast-t25
+    cast-t26
+    cast-blank-machine
+    cast-blank-machine-2
+    cast-blank-machine-3
+    cast-blank-machine-4
+    blank-machine-requires
+    judge-lines-requires
+    enum-known-verdict
+    refused-requires-4
+    returns-4
+    enum-told
+    write-memory-requires
+    same-length
+    same-length-2
+    returns-5)

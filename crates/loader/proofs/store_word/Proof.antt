@@ -1,0 +1,61 @@
+-- `loader::store_word` meets its contract: only a W line writes, and its numbers are in their ranges.
+-- Assumes nothing.
+use mathlib.Core.Logic.{⊎-elim}
+use native.Mathlib.Omega.{arith}
+use borrow.Author.Needs.{needs}
+use Rattle.model.specs.Load.{fill}
+use Rattle.loader.proofs.Passes.{stored-range, not-stored}
+use Rattle.loader.proofs.store_word.Statement.{statement}
+use Rattle.loader.proofs.store_word.Tie as tie
+
+enum-known-line : tie.Need-enum-known-line
+enum-known-line c = search needs
+
+returns : tie.Need-returns
+returns c =
+    not-stored (c .before .args .line) _
+    (λ a b d e. ⊎-elim (λ x. omega arith)
+    (⊎-elim (λ x. omega arith) (⊎-elim (λ x. omega arith) (λ x. omega arith))) (rw e at (c .match .keys2)))
+
+cast-words : tie.Need-cast-words
+cast-words c = omega (arith, stored-range _ _ _ _ _ (c .before .before .before .pre .0) (c .before .line .given .1))
+
+mul-words : tie.Need-mul-words
+mul-words c = omega (arith, stored-range _ _ _ _ _ (c .before .before .before .pre .0) (c .before .line .given .1))
+
+slice-write-words : tie.Need-slice-write-words
+slice-write-words c =
+    omega (arith, stored-range _ _ _ _ _ (c .before .before .before .pre .0) (c .before .line .given .1))
+
+cast-labels : tie.Need-cast-labels
+cast-labels c =
+    omega (arith, stored-range _ _ _ _ _ (c .before .before .before .pre .0) (c .before .line .given .1))
+
+slice-write-labels : tie.Need-slice-write-labels
+slice-write-labels c =
+    omega (arith, stored-range _ _ _ _ _ (c .before .before .before .pre .1) (c .before .line .given .1))
+
+same-length : tie.Need-same-length
+same-length c = search needs
+
+same-length-2 : tie.Need-same-length-2
+same-length-2 c = search needs
+
+returns-2 : tie.Need-returns-2
+unfolding fill
+returns-2 c = rw (c .before .line .given .1)
+
+pub store-word-spec : {M : Type 1} → statement M
+store-word-spec =
+    tie.close
+    (tie.spec
+    enum-known-line
+    returns
+    cast-words
+    mul-words
+    slice-write-words
+    cast-labels
+    slice-write-labels
+    same-length
+    same-length-2
+    returns-2)

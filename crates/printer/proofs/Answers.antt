@@ -1,0 +1,66 @@
+-- What print answers, from what its tests and its writing found.
+-- Assumes nothing.
+use Prim.Native.Nat.{ℕ, _<_, _≤_}
+use mathlib.Core.Path.{_≡_, refl, sym, ap, _∙_}
+use mathlib.Core.Bool.{Bool, true, false, _&&_}
+use mathlib.Core.List.{List}
+use lib.Dec.{leb}
+use lib.ListN.{length}
+use borrow.Author.Tests.{le-leb, lt-leb, leb-true}
+use Rattle.model.specs.Record.{Bank, Machine, stateOf}
+use Rattle.model.specs.WellFormed.{wellFormed, lentWhole}
+use Rattle.model.specs.Listing.{listing, Printing, notPrinted, print}
+use Rattle.model.proofs.Truth.{and-iff}
+use Rattle.model.proofs.WellFormed.{fit}
+use Rattle.text.specs.Writing.{over, Wrote}
+use Rattle.printer.specs.Printing.{printedWhole, Entries}
+
+module _ (r : Machine) (m : Bank) (out : List ℕ) where
+  -- ---- the output's length
+
+  -- 8 where the output is shorter than the listing.
+  pub short-output : (count : ℕ) → count ≡ length (listing (stateOf r m)) → length out < count
+      → notPrinted 8 r out ≡ printedWhole r m out
+  unfolding printedWhole
+  short-output count e l = rw (lt-leb (length (listing (stateOf r m))) (length out) (rw e at l))
+
+  -- The listing, written.
+  pub listed : {after : List ℕ} {n : ℕ} (count : ℕ) → count ≡ length (listing (stateOf r m))
+      → Wrote (listing (stateOf r m)) out n after
+      → record { number = 0; machine = r; bytes = count; output = after } ≡ printedWhole r m out
+  unfolding printedWhole over
+  listed count e w = rw (le-leb (length (listing (stateOf r m))) (length out) (w .fits), e, w .output)
+
+  -- ---- the record and the memory
+
+  -- 7 where the record is not well-formed.
+  pub ill-formed : (b : Bool) → b ≡ wellFormed r → b ≡ false
+      → notPrinted 7 r out ≡ print r m out
+  unfolding print
+  ill-formed b e f = rw ((sym e), f)
+
+  module _ (b : Bool) (e : b ≡ wellFormed r) (t : b ≡ true) where
+    -- It has at most 2,048 words.
+    size-most : r .fixed .size ≤ 2048
+    size-most = fit (stateOf r m) (sym e ∙ t) .fixed .sizeHigh
+
+    -- 6 where lent words or labels are shorter than the size.
+    pub short-memory : (w : Bool)
+        → w ≡ (leb (r .fixed .size) (length (m .values)) && leb (r .fixed .size) (length (m .labels)))
+        → w ≡ false → notPrinted 6 r out ≡ print r m out
+    unfolding print lentWhole
+    short-memory w h f = rw ((sym e), t, ← h, f)
+
+    module _ (w : Bool) (h : w ≡ (leb (r .fixed .size) (length (m .values)) && leb (r .fixed .size) (length (m .labels))))
+        (u : w ≡ true)
+      where
+        -- Else there are so many entries.
+        pub lent-whole : Entries (m .values) (m .labels) (r .fixed .size)
+        lent-whole =
+            let p = and-iff _ _ .0 (sym h ∙ u) in
+            record { enough = leb-true _ _ (p .0); labelled = leb-true _ _ (p .1); most = size-most }
+
+        -- And it turns on the output.
+        pub whole : {x : Printing} → x ≡ printedWhole r m out → x ≡ print r m out
+        unfolding print lentWhole printedWhole
+        whole f = rw ((sym e), t, ← h, u) f

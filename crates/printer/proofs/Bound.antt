@@ -1,0 +1,156 @@
+-- How long a listing can be: at most 45,478 bytes for a well-formed record whose numbers are within their types.
+-- Assumes nothing.
+use Prim.Native.Nat.{ℕ, zero, suc, _+_, _*_, _^_, _<_, _≤_}
+use mathlib.Core.Path.{_≡_}
+use mathlib.Core.Bool.{true, _&&_}
+use mathlib.Core.List.{[], _∷_}
+use native.Mathlib.Nat.{mul-suc}
+use native.Mathlib.Omega.{arith}
+use lib.Dec.{leb, eqb}
+use lib.ListN.{length, getD, length-append}
+use borrow.Author.Tests.{leb-true, eqb-true}
+use Rattle.model.specs.declared.Pair.{Pair}
+use Rattle.model.specs.declared.Control.{Control}
+use Rattle.model.specs.declared.Call.{Call}
+use Rattle.model.specs.declared.Call.the-variants.{Empty, Gate, Upcall}
+use Rattle.model.specs.Record.{Bank, State, machineOf}
+use Rattle.model.specs.WellFormed.{endInRange, wellFormed}
+use Rattle.model.specs.Listing.{decimal, line, callLine, differs, entryLine, entryLines, listing}
+use Rattle.model.proofs.Truth.{and-iff, choice}
+use Rattle.model.proofs.WellFormed.{Fit, CallsFit, none, gate, upcall, both, fit}
+use Rattle.text.proofs.Decimal.{digits-below}
+use Rattle.text.proofs.Fields.{three-fields, five-fields, six-fields}
+use Rattle.printer.specs.Printing.{endFields}
+use Rattle.printer.proofs.Lines.{cond-most, head-length, listing-length}
+
+-- ---- what the types of the code say
+
+-- Both labels of a pair are bytes.
+pub record LabelPair (q : Pair) : Type 0 where
+  pub pc : q .pc < 256
+  pub timing : q .timing < 256
+
+-- The numbers that a call keeps; well-formedness bounds the end tick.
+abbrev pub KeptInTypes : Call → Type 0
+KeptInTypes Empty = Unit {0}
+KeptInTypes (Gate k q) = (k < 2 ^ 32) × LabelPair q
+KeptInTypes (Upcall k q e) = (k < 2 ^ 32) × LabelPair q
+
+-- Of the first n entries: values below 2^32, labels below 256.
+pub record BankInTypes (n : ℕ) (b : Bank) : Type 0 where
+  pub values : (k : ℕ) → k < n → getD (b .values) k 0 < 2 ^ 32
+  pub labels : (k : ℕ) → k < n → getD (b .labels) k 0 < 256
+
+-- The numbers of a state.
+pub record InTypes (s : State) : Type 0 where
+  pub pc : s .control .pc < 2 ^ 32
+  pub pair : LabelPair (s .control .pair)
+  pub first : KeptInTypes (s .control .first)
+  pub second : KeptInTypes (s .control .second)
+  pub registers : BankInTypes 16 (s .registers)
+  pub memory : BankInTypes (s .fixed .size) (s .memory)
+
+-- ---- the E line
+
+-- End and why are at most 3.
+end-most : (c : Control) → endInRange c ≡ true → (c .end ≤ 3) × (c .why ≤ 3)
+unfolding endInRange
+end-most c e =
+    let h = and-iff (leb (c .end) 3) _ .0 e in (
+      leb-true (c .end) 3 (h .0),
+      choice (λ b. b ≡ true → c .why ≤ 3) (eqb (c .end) 3) (leb 1 (c .why) && leb (c .why) 3) (eqb (c .why) 0)
+          (λ t w. leb-true (c .why) 3 (and-iff (leb 1 (c .why)) (leb (c .why) 3) .0 w .1))
+          (λ t w. let z = eqb-true (c .why) 0 w in omega arith)
+          (h .1),
+    )
+
+end-bound : (s : State) → Fit (s .fixed) (s .control) → InTypes s → length (line 69 (endFields (s .control))) ≤ 34
+end-bound s f t =
+    let c = s .control in
+    let e = end-most c (f .end) in
+    omega (
+      arith,
+      six-fields 69 (c .end) (c .why) (c .clock) (c .pc) (c .pair .pc) (c .pair .timing),
+      digits-below 0 (c .end) (omega arith),
+      digits-below 0 (c .why) (omega arith),
+      digits-below 7 (c .clock) (omega (arith, f .clock, f .fixed .limitHigh)),
+      digits-below 9 (c .pc) (omega (arith, t .pc)),
+      digits-below 2 (c .pair .pc) (omega (arith, t .pair .pc)),
+      digits-below 2 (c .pair .timing) (omega (arith, t .pair .timing)),
+    )
+
+-- ---- F lines
+
+call-bound : (kind k e : ℕ) (q : Pair) → kind < 10 → k < 2 ^ 32 → LabelPair q → e < 2 ^ 33
+    → length (line 70 (kind ∷ k ∷ q .pc ∷ q .timing ∷ e ∷ [])) ≤ 34
+call-bound kind k e q i h t l =
+    omega (
+      arith,
+      five-fields 70 kind k (q .pc) (q .timing) e,
+      digits-below 0 kind (omega arith),
+      digits-below 9 k (omega arith),
+      digits-below 2 (q .pc) (omega (arith, t .pc)),
+      digits-below 2 (q .timing) (omega (arith, t .timing)),
+      digits-below 9 e (omega arith),
+    )
+
+calls-bound : {now : Pair} {clock : ℕ} {x y : Call} → CallsFit now clock x y → KeptInTypes x → KeptInTypes y
+    → length (callLine x) + length (callLine y) ≤ 68
+calls-bound none t u = omega arith
+calls-bound (gate {k} {q} h) t u = omega (arith, call-bound 1 k 0 q (omega arith) (t .0) (t .1) (omega arith))
+calls-bound (upcall {k} {e} {q} h) t u = omega (arith, call-bound 2 k e q (omega arith) (t .0) (t .1) (h .bounded))
+calls-bound (both {k} {j} {e} {q} {r} v h) t u =
+    omega (
+      arith,
+      call-bound 1 k 0 q (omega arith) (t .0) (t .1) (omega arith),
+      call-bound 2 j e r (omega arith) (u .0) (u .1) (h .bounded),
+    )
+
+-- ---- R and W lines
+
+-- An entry whose number has at most so many digits.
+entry-bound : (letter : ℕ) (b : Bank) (w n k : ℕ) → BankInTypes n b → k < n → length (decimal k) ≤ w
+    → length (entryLine letter b k) ≤ 18 + w
+unfolding entryLine
+entry-bound letter b w n k t i h =
+    omega (
+      arith,
+      cond-most (differs b k) (line letter (k ∷ getD (b .labels) k 0 ∷ getD (b .values) k 0 ∷ [])),
+      three-fields letter k (getD (b .labels) k 0) (getD (b .values) k 0),
+      digits-below 2 (getD (b .labels) k 0) (omega (arith, t .labels k i)),
+      digits-below 9 (getD (b .values) k 0) (omega (arith, t .values k i)),
+    )
+
+-- Some of the first m entries, which are at most 10^(w + 1).
+some-entries : (letter : ℕ) (b : Bank) (w m j n : ℕ) → BankInTypes m b → m ≤ 10 ^ suc w → j + n ≤ m
+    → length (entryLines letter b j n) ≤ (18 + suc w) * n
+unfolding entryLines
+some-entries letter b w m j zero t h i = omega arith
+some-entries letter b w m j (suc n) t h i =
+    let d = digits-below w j (omega arith) in
+    rw mul-suc
+    (simp length-append
+    (omega (arith, entry-bound letter b (suc w) m j t (omega arith) d, some-entries letter b w m (j + 1) n t h (omega arith))))
+
+-- All of them.
+pub entries-bound : (letter : ℕ) (b : Bank) (w n : ℕ) → BankInTypes n b → n ≤ 10 ^ suc w
+    → length (entryLines letter b 0 n) ≤ (18 + suc w) * n
+entries-bound letter b w n t h = some-entries letter b w n 0 n t h (omega arith)
+
+-- ---- the listing
+
+-- The listing of a well-formed record whose numbers are within their types takes at most 45,478 bytes: 34 for the E line,
+-- 34 for each of two F lines, 20 for each of 16 R lines and 22 for each of 2,048 W lines.
+pub listing-bound : (s : State) → wellFormed (machineOf s) ≡ true → InTypes s → length (listing s) ≤ 45478
+listing-bound s e t =
+    let f = fit s e in
+    rw (listing-length s)
+    (omega (
+      arith,
+      head-length (s .control),
+      end-bound s f t,
+      calls-bound (f .calls) (t .first) (t .second),
+      entries-bound 82 (s .registers) 1 16 (t .registers) (omega arith),
+      entries-bound 87 (s .memory) 3 (s .fixed .size) (t .memory) (omega (arith, f .fixed .sizeHigh)),
+      f .fixed .sizeHigh,
+    ))

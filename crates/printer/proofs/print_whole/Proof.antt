@@ -1,0 +1,41 @@
+-- `printer::print_whole` meets its contract. 8 where the output is shorter than the listing, else the listing.
+-- Assumes nothing.
+use borrow.Author.Needs.{needs}
+use Rattle.model.specs.Record.{Machine, Bank}
+use Rattle.machine.specs.Answered.{recordOf}
+use Rattle.printer.specs.Printing.{lent}
+use Rattle.printer.proofs.Answers.{short-output, listed}
+use Rattle.printer.proofs.print_whole.Statement.{statement}
+use Rattle.printer.proofs.print_whole.Tie as tie
+
+-- The record and the memory lent to it.
+abbrev record-of : tie.Start → Machine
+record-of start = recordOf (start .args .machine)
+
+abbrev memory-of : tie.Start → Bank
+memory-of start = lent (start .args .words .now) (start .args .labels .now)
+
+listing-length-requires : tie.Need-listing-length-requires
+listing-length-requires c κs = search needs
+
+returns : tie.Need-returns
+returns c =
+    short-output (record-of (c .before .before .before .before .before))
+    (memory-of (c .before .before .before .before .before)) _ _ (c .before .listing-length .ensures) (c .if1 .taken)
+
+write-listing-requires : tie.Need-write-listing-requires
+write-listing-requires c κs = search needs
+
+same-length : tie.Need-same-length
+same-length c = search needs
+
+returns-2 : tie.Need-returns-2
+returns-2 c =
+    let start = c .before .before .before .before .before .before .before .before .before in
+    listed (record-of start) (memory-of start) _ _
+    (c .before .before .before .before .before .listing-length .ensures) (c .before .before .write-listing .ensures)
+
+pub print-whole-spec : {M : Type 1} → statement M
+print-whole-spec =
+    tie.close
+    (tie.spec listing-length-requires returns write-listing-requires same-length returns-2)

@@ -1,0 +1,85 @@
+-- What print answers, in the paper's numbers and values, and the lines of which its code writes a listing.
+-- Assumes nothing.
+use Prim.Native.Nat.{ℕ, _≤_}
+use mathlib.Core.Bool.{Bool, not, _&&_, cond}
+use mathlib.Core.List.{List, [], _∷_, _++_}
+use lib.Dec.{leb, eqb}
+use lib.ListN.{length, drop}
+use Rattle.labels.specs.Label.{lowest}
+use Rattle.model.specs.declared.Control.{Control}
+use Rattle.model.specs.declared.Pair.{Pair}
+use Rattle.model.specs.Record.{Bank, Machine, State, stateOf}
+use Rattle.model.specs.Listing.{line, callLine, listing, Printing, notPrinted}
+use Rattle.machine.specs.declared.Machine as struct
+use Rattle.machine.specs.Answered.{recordOf}
+use Rattle.printer.specs.declared.Outcome.{Outcome}
+use Rattle.printer.specs.declared.Outcome.the-variants.{Written, IllFormed, ShortMemory, ShortOutput}
+use Rattle.printer.specs.declared.Printed.{Printed}
+
+-- The number of an outcome in the table of document 01, "Text"; 0 where the listing was written.
+abbrev pub numberOf : Outcome → ℕ
+numberOf (Written n) = 0
+numberOf IllFormed = 7
+numberOf ShortMemory = 6
+numberOf ShortOutput = 8
+
+-- The listing's length, or 0.
+abbrev pub lengthOf : Outcome → ℕ
+lengthOf (Written n) = n
+lengthOf IllFormed = 0
+lengthOf ShortMemory = 0
+lengthOf ShortOutput = 0
+
+-- The answer of print: number, record, length, and the output at exit.
+abbrev pub printingOf : Printed → List ℕ → Printing
+printingOf r out =
+    record {
+      number = numberOf (r .outcome);
+      machine = recordOf (r .machine);
+      bytes = lengthOf (r .outcome);
+      output = out;
+    }
+
+-- Lent words and labels.
+abbrev pub lent : List ℕ → List ℕ → Bank
+lent words labels = record { values = words; labels = labels }
+
+-- The state of a machine with lent words and labels.
+abbrev pub stateWith : struct.Machine → List ℕ → List ℕ → State
+stateWith m words labels = stateOf (recordOf m) (lent words labels)
+
+-- The answer for a well-formed record whose memory is whole: 8 where the output is shorter than the listing.
+unfoldable pub printedWhole : Machine → Bank → List ℕ → Printing
+printedWhole r m out =
+    let text = listing (stateOf r m) in
+    cond (leb (length text) (length out))
+    (record { number = 0; machine = r; bytes = length text; output = text ++ drop (length text) out })
+    (notPrinted 8 r out)
+
+-- There are so many entries, and no more than a machine has words.
+pub record Entries (values labels : List ℕ) (count : ℕ) : Type 0 where
+  pub enough : count ≤ length values
+  pub labelled : count ≤ length labels
+  pub most : count ≤ 2048
+
+-- ---- the lines
+
+-- The fields of the E line.
+abbrev pub endFields : Control → List ℕ
+endFields c = c .end ∷ c .why ∷ c .clock ∷ c .pc ∷ c .pair .pc ∷ c .pair .timing ∷ []
+
+-- The fields of an F line.
+abbrev pub callFields : ℕ → ℕ → Pair → ℕ → List ℕ
+callFields kind back q tick = kind ∷ back ∷ q .pc ∷ q .timing ∷ tick ∷ []
+
+-- The E line and the F lines.
+unfoldable pub headLines : Control → List ℕ
+headLines c = (line 69 (endFields c) ++ callLine (c .first)) ++ callLine (c .second)
+
+-- An entry with this label and value has a line.
+unfoldable pub isListed : ℕ → ℕ → Bool
+isListed label value = not (eqb value 0 && eqb label lowest)
+
+-- The R or W line of the entry k with this label and value, or nothing.
+unfoldable pub entryText : ℕ → ℕ → ℕ → ℕ → List ℕ
+entryText letter k label value = cond (isListed label value) (line letter (k ∷ label ∷ value ∷ [])) []
