@@ -1,0 +1,162 @@
+//! `calls [SEED [COUNT]]` tries the library's calls beside the interpreter's on
+//! records and memory that no load gives. COUNT is the number of records that
+//! are taken and changed in every way. It prints what was met; the last line is
+//! 'N passed, M failed'.
+
+#![forbid(unsafe_code)]
+
+use beside::bases::Base;
+use beside::breaks::breaks;
+use beside::buffers::Lent;
+use beside::calls::{count, Calls};
+use beside::edges::edges;
+use beside::layout::words_of;
+use beside::loads::{self, try_cabinet, try_load};
+use beside::no_records::no_records;
+use beside::other::Other;
+use beside::tally::Tally;
+use beside::trials::{Call, Trials, CALLS, LENDINGS};
+use interpreter::generator::random::Random;
+use interpreter::is_fit;
+use std::env;
+use std::process::ExitCode;
+
+/// How much output is lent, against the listing's length.
+const OUTPUTS: [&str; 4] = ["just the listing", "short by one", "none", "longer"];
+
+/// After a call that was carried out, so many more are made.
+const FURTHER: u32 = 4;
+
+fn main() -> ExitCode {
+    let numbers: Vec<u64> = env::args().skip(1).filter_map(|word| word.parse().ok()).collect();
+    let (seed, bases) = match numbers[..] {
+        [] => (1, 300),
+        [seed] => (seed, 300),
+        [seed, bases, ..] => (seed, bases),
+    };
+    let mut random = Random::new(seed);
+    let mut trials = Trials::new(Tally::expecting(expected()));
+    for _ in 0..bases {
+        let base = Base::make(&mut random);
+        try_fit(&mut trials, &mut random, &base);
+        try_unfit(&mut trials, &mut random, &base);
+        try_no_record(&mut trials, &mut random, &base);
+    }
+    (0..10 * bases as usize).for_each(|turn| try_load(&mut trials, &mut random, turn));
+    (0..4).for_each(|_| try_cabinet(&mut trials, &mut random, 60));
+    print!("{}", trials.tally);
+    let unmet = trials.tally.unmet();
+    println!("kinds never met: {unmet:?}");
+    let failed = trials.failed + unmet.len() as u64;
+    println!("{} passed, {failed} failed", trials.passed);
+    ExitCode::from(u8::from(failed > 0))
+}
+
+/// Every way, for every call; every length of memory and of output; and every
+/// order between two refusals.
+fn expected() -> Vec<String> {
+    let mut names = loads::expected();
+    let ways = breaks().map(|way| way.name).chain(no_records().map(|way| way.name));
+    let records: Vec<&str> = ways.chain(edges().map(|edge| edge.name)).collect();
+    for call in CALLS.map(Call::name) {
+        names.extend(records.iter().map(|name| format!("{call}, {name}")));
+        names.extend(LENDINGS.iter().map(|lending| format!("{call}, {}", lending.name)));
+        names.push(format!("{call}, 7 before 6"));
+    }
+    names.extend(OUTPUTS.map(|name| format!("print, output {name}")));
+    names.extend(["print, 7 before 8", "print, 6 before 8"].map(str::to_string));
+    names
+}
+
+/// The record as it is, and at each edge of fitness.
+fn try_fit(trials: &mut Trials, random: &mut Random, base: &Base) {
+    try_record(trials, random, "a state of a run", base, &words_of(&base.machine), true);
+    for edge in edges() {
+        let mut changed = base.clone();
+        (edge.put)(&mut changed.machine, random);
+        changed.fit_memory(random);
+        let words = words_of(&changed.machine);
+        try_record(trials, random, edge.name, &changed, &words, true);
+    }
+}
+
+/// The record broken in each single way. Before it is broken it is fit, or the
+/// way would not be single.
+fn try_unfit(trials: &mut Trials, random: &mut Random, base: &Base) {
+    for way in breaks() {
+        let mut changed = base.clone();
+        (way.prepare)(&mut changed.machine);
+        assert!(is_fit(&changed.machine), "{} starts from a fit record", way.name);
+        try_record(
+            trials,
+            random,
+            "a prepared record",
+            &changed,
+            &words_of(&changed.machine),
+            true,
+        );
+        (way.spoil)(&mut changed.machine);
+        changed.fit_memory(random);
+        try_record(trials, random, way.name, &changed, &words_of(&changed.machine), false);
+    }
+}
+
+/// The record's words, spoilt.
+fn try_no_record(trials: &mut Trials, random: &mut Random, base: &Base) {
+    for way in no_records() {
+        let mut words = words_of(&base.machine).to_vec();
+        (way.spoil)(&mut words, random);
+        try_record(trials, random, way.name, base, &words, false);
+    }
+}
+
+/// The three calls over a record's words, in memory of some length.
+fn try_record(
+    trials: &mut Trials,
+    random: &mut Random,
+    name: &str,
+    base: &Base,
+    record: &[u64],
+    is_fit: bool,
+) {
+    for call in CALLS {
+        let mut lent = Lent::of(random, record, &base.words, &base.labels);
+        let lending = if random.chance(50) { LENDINGS[0] } else { random.pick(&LENDINGS) };
+        lending.apply(random, &mut lent, base.words.len());
+        let short_output = call == Call::Print && lend_output(trials, random, &mut lent);
+        let due = match (is_fit, lending.is_short() && !base.words.is_empty()) {
+            (false, _) => 7,
+            (true, true) => 6,
+            (true, false) => 8 * u64::from(short_output),
+        };
+        let (tally, call_name) = (&mut trials.tally, call.name());
+        tally.count(&format!("{call_name}, {}", lending.name));
+        tally.count_if(due == 7 && lending.is_short(), &format!("{call_name}, 7 before 6"));
+        tally.count_if(due == 7 && short_output, "print, 7 before 8");
+        tally.count_if(due == 6 && short_output, "print, 6 before 8");
+        let after = trials.try_call(name, call, &lent, due);
+        if due == 0 {
+            go_on(trials, call, after);
+        }
+    }
+}
+
+/// Lends output of some length; whether it is too short. Where the listing is
+/// none, for the record is refused, its length is that of any.
+fn lend_output(trials: &mut Trials, random: &mut Random, lent: &mut Lent) -> bool {
+    let mut listing = vec![0; 65_536];
+    let printed = Other.print(lent.record.get(), lent.words.get(), lent.labels.get(), &mut listing);
+    let length = count(printed).max(18) as usize;
+    let choice = random.index(OUTPUTS.len());
+    let lend = [length, length - 1, 0, length + random.index(50) + 1][choice];
+    lent.output.lend(lend, random.bits() as u8);
+    trials.tally.count(&format!("print, output {}", OUTPUTS[choice]));
+    lend < length
+}
+
+/// The same call again and again, from what the library has left.
+fn go_on(trials: &mut Trials, call: Call, mut lent: Lent) {
+    for _ in 0..FURTHER {
+        lent = trials.try_call("what a call left", call, &lent, 0);
+    }
+}
