@@ -17,5 +17,6 @@ pub mod library;
 pub mod loads;
 pub mod no_records;
 pub mod other;
+pub mod pairs;
 pub mod tally;
 pub mod trials;
