@@ -154,3 +154,25 @@ fn write_registers(machine: &Machine, words: &mut [u64]) {
         words[at::label(k)] = label.0.into();
     }
 }
+
+/// What a word of the record is, for a reader.
+pub fn word_name(word: usize) -> String {
+    let call = ["kind", "return pc", "pc label", "timing label", "end tick"];
+    let gate = ["entry", "pc label", "timing label"];
+    match word {
+        at::SIZE => "size".to_string(),
+        at::LIMIT => "limit".to_string(),
+        at::ERROR_PC => "error pc".to_string(),
+        at::GATE_COUNT => "number of gates".to_string(),
+        4..=27 => format!("gate {}, {}", (word - 4) / 3, gate[(word - 4) % 3]),
+        at::PC => "pc".to_string(),
+        at::PC_LABEL => "pc label".to_string(),
+        at::TIMING_LABEL => "timing label".to_string(),
+        at::CLOCK => "clock".to_string(),
+        32..=41 => format!("call {}, {}", (word - 32) / 5, call[(word - 32) % 5]),
+        at::END => "end".to_string(),
+        at::WHY => "why".to_string(),
+        44..=59 => format!("value of register {}", word - 44),
+        _ => format!("label of register {}", word.wrapping_sub(60)),
+    }
+}

@@ -18,5 +18,6 @@ pub mod loads;
 pub mod no_records;
 pub mod other;
 pub mod pairs;
+pub mod parting;
 pub mod tally;
 pub mod trials;
