@@ -21,3 +21,4 @@ pub mod pairs;
 pub mod parting;
 pub mod tally;
 pub mod trials;
+pub mod verdict;

@@ -6,6 +6,7 @@
 #![forbid(unsafe_code)]
 
 use beside::parting::first_parting;
+use beside::verdict::close;
 use interpreter::fire;
 use interpreter::generator::Generator;
 use std::io::{self, Write};
@@ -35,9 +36,8 @@ fn main() -> ExitCode {
         }
     }
     print!("{}", generator.census);
-    failed += generator.census.unmet().len() as u64;
-    println!("{passed} passed, {failed} failed");
-    ExitCode::from(u8::from(failed > 0))
+    let strange = generator.census.strange().len() as u64;
+    close(passed, failed + strange, generator.census.unmet().len())
 }
 
 /// Whether both give one listing; what differs is shown if wanted.

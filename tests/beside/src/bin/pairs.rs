@@ -11,8 +11,10 @@ use beside::pairs::check::{compare, unreached};
 use beside::pairs::hidden::{came, Came};
 use beside::pairs::make::Pair;
 use beside::pairs::provisos::{both, bounds, first_broken, Bounds, NAMES};
+use beside::pairs::seen::are_alike;
 use beside::pairs::trace::{trace, Trace};
 use beside::tally::Tally;
+use beside::verdict::close;
 use interpreter::generator::random::Random;
 use interpreter::Label;
 use std::env;
@@ -58,7 +60,7 @@ fn main() -> ExitCode {
     let random = Random::new(number(0).unwrap_or(1));
     let tally = Tally::expecting(expected);
     let mut trial = Trial { calls, random, tally, passed: 0, failed: 0 };
-    for _ in 0..number(1).unwrap_or(10_000) {
+    for _ in 0..number(1).unwrap_or(20_000) {
         trial.try_pair();
     }
     trial.finish()
@@ -95,6 +97,9 @@ impl Trial<'_> {
         let (calls, random, tally) = (self.calls, &mut self.random, &mut self.tally);
         let one = trace(calls, random, tally, &one.text(), size)?;
         let other = trace(calls, random, tally, &other.text(), size)?;
+        if !are_alike(*level, &one.states[0], &other.states[0]) {
+            return Err("they are not loaded alike".to_string());
+        }
         let bounds = both(bounds(*level, &one), bounds(*level, &other));
         let reached = unreached(&one, &other);
         let bound = first_broken(bounds, None).unwrap_or(reached).min(reached);
@@ -144,8 +149,6 @@ impl Trial<'_> {
         print!("{}", self.tally);
         let unmet = self.tally.unmet();
         println!("kinds never met: {unmet:?}");
-        let failed = self.failed + unmet.len() as u64;
-        println!("{} passed, {failed} failed", self.passed);
-        ExitCode::from(u8::from(failed > 0))
+        close(self.passed, self.failed, unmet.len())
     }
 }

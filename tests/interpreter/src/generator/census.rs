@@ -99,6 +99,8 @@ pub struct Census {
     /// out because of the limit.
     undone: [[u64; 2]; 23],
     notes: BTreeMap<&'static str, u64>,
+    /// What no run should meet.
+    strange: BTreeMap<String, u64>,
     /// By plan and by fault, what was done to damaged images.
     damages: BTreeMap<String, u64>,
 }
@@ -160,7 +162,8 @@ impl Census {
         let plans = PLANS.iter().map(|plan| format!("damage {plan:?}"));
         let faults = FAULTS.iter().map(|fault| fault.to_string());
         let damages = plans.chain(faults).map(|name| (name, 0)).collect();
-        Census { ops: [[[0; 2]; 23]; 4], undone: [[0; 2]; 23], notes, damages }
+        let (ops, undone) = ([[[0; 2]; 23]; 4], [[0; 2]; 23]);
+        Census { ops, undone, notes, strange: BTreeMap::new(), damages }
     }
 
     /// Adds what one image has met: each kind once, however often it came up.
@@ -173,6 +176,7 @@ impl Census {
         sums.zip(seen.undone.iter().flatten()).for_each(|(sum, count)| *sum += (*count).min(1));
         let sums = self.notes.values_mut();
         sums.zip(seen.notes.values()).for_each(|(sum, count)| *sum += (*count).min(1));
+        seen.strange.keys().for_each(|name| *self.strange.entry(name.clone()).or_insert(0) += 1);
     }
 
     /// In how many images an op has passed or failed in a context.
@@ -188,8 +192,12 @@ impl Census {
         self.undone[usize::from(number)][undone as usize] += 1;
     }
 
+    /// Counts a note. One that is not in the list is of something that can't be.
     pub fn note(&mut self, name: &str) {
-        *self.notes.get_mut(name).expect("every note is in the list") += 1;
+        match self.notes.get_mut(name) {
+            Some(count) => *count += 1,
+            None => *self.strange.entry(name.to_string()).or_insert(0) += 1,
+        }
     }
 
     pub fn note_if(&mut self, condition: bool, name: &str) {
@@ -203,6 +211,11 @@ impl Census {
         for name in names {
             *self.damages.get_mut(name).expect("every plan and fault is in a list") += 1;
         }
+    }
+
+    /// What was met and can't be.
+    pub fn strange(&self) -> Vec<&str> {
+        self.strange.keys().map(String::as_str).collect()
     }
 
     /// The kinds that no image has met yet.
@@ -267,6 +280,7 @@ impl fmt::Display for Census {
             NOTES.iter().map(|name| format!("{name}: {}\n", self.notes[name])).collect();
         let damages: String =
             self.damages.iter().map(|(name, count)| format!("{name}: {count}\n")).collect();
-        writeln!(out, "{rows}{notes}{damages}kinds never met: {:?}", self.unmet())
+        writeln!(out, "{rows}{notes}{damages}kinds met that can't be: {:?}", self.strange())?;
+        writeln!(out, "kinds never met: {:?}", self.unmet())
     }
 }
