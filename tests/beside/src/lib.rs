@@ -19,6 +19,7 @@ pub mod no_records;
 pub mod other;
 pub mod pairs;
 pub mod parting;
+pub mod random_records;
 pub mod tally;
 pub mod trials;
 pub mod verdict;

@@ -108,7 +108,7 @@ pub fn try_load(trials: &mut Trials, random: &mut Random, turn: usize) {
     }
     let name = format!("load of\n{}", String::from_utf8_lossy(&text.bytes));
     let make = |calls: &dyn Calls, lent: &mut Lent| lent.load(calls, &text.bytes);
-    trials.compare(&name, make, &lent, due);
+    trials.compare(&name, make, &lent, Some(due));
 }
 
 /// One cabinet, many files: each is loaded, stepped, run and printed in the
@@ -123,12 +123,12 @@ pub fn try_cabinet(trials: &mut Trials, random: &mut Random, files: usize) {
             last = text(random, turn);
         }
         let make = |calls: &dyn Calls, lent: &mut Lent| lent.load(calls, &last.bytes);
-        lent = trials.compare("load in a cabinet", make, &lent, last.number);
+        lent = trials.compare("load in a cabinet", make, &lent, Some(last.number));
         let limit = lent.record.get()[1];
         if last.number == 0 && limit <= LONGEST {
-            lent = trials.try_call("a file in a cabinet", Call::Step, &lent, 0);
-            lent = trials.try_call("a file in a cabinet", Call::Run, &lent, 0);
-            lent = trials.try_call("a file in a cabinet", Call::Print, &lent, 0);
+            lent = trials.try_call("a file in a cabinet", Call::Step, &lent, Some(0));
+            lent = trials.try_call("a file in a cabinet", Call::Run, &lent, Some(0));
+            lent = trials.try_call("a file in a cabinet", Call::Print, &lent, Some(0));
         }
     }
 }

@@ -8,12 +8,14 @@
 use beside::bases::Base;
 use beside::breaks::breaks;
 use beside::buffers::Lent;
-use beside::calls::{count, Calls};
+use beside::calls::{count, number, Calls};
 use beside::edges::edges;
 use beside::layout::words_of;
+use beside::library::Library;
 use beside::loads::{self, try_cabinet, try_load};
 use beside::no_records::no_records;
 use beside::other::Other;
+use beside::random_records::change;
 use beside::tally::Tally;
 use beside::trials::{Call, Trials, CALLS, LENDINGS};
 use beside::verdict::close;
@@ -23,6 +25,9 @@ use std::process::ExitCode;
 
 /// How much output is lent, against the listing's length.
 const OUTPUTS: [&str; 4] = ["just the listing", "short by one", "none", "longer"];
+
+/// So many times each record has words changed at random.
+const RANDOM: u32 = 40;
 
 /// After a call that was carried out, so many more are made.
 const FURTHER: u32 = 4;
@@ -56,6 +61,9 @@ fn expected() -> Vec<String> {
         names.extend(LENDINGS.iter().map(|lending| format!("{call}, {}", lending.name)));
         names.push(format!("{call}, 7 before 6"));
     }
+    let random =
+        ["0", "6", "7"].map(|answer| format!("print, random words, step answers {answer}"));
+    names.extend(random);
     names.extend(OUTPUTS.map(|name| format!("print, output {name}")));
     names.extend(["print, 7 before 8", "print, 6 before 8"].map(str::to_string));
     names
@@ -67,6 +75,7 @@ fn try_base(trials: &mut Trials, random: &mut Random) {
     try_fit(trials, random, &base);
     try_unfit(trials, random, &base);
     try_no_record(trials, random, &base);
+    (0..RANDOM).for_each(|_| try_random_record(trials, random, &base));
 }
 
 /// The record as it is, and at each edge of fitness.
@@ -110,6 +119,18 @@ fn try_no_record(trials: &mut Trials, random: &mut Random, base: &Base) {
     }
 }
 
+/// The record with words changed at random, in memory that may be too short for
+/// what its size has become; a run of it can be long, and it is seldom called.
+fn try_random_record(trials: &mut Trials, random: &mut Random, base: &Base) {
+    let record = change(random, &words_of(&base.machine));
+    let call = CALLS[random.weighted(&[10, 3, 10])];
+    let mut lent = Lent::of(random, &record, &base.words, &base.labels);
+    lent.output.lend(random.pick(&[0, 100, 65_536]), 0);
+    let answer = number(lent.clone().step(&Library));
+    trials.tally.count(&format!("{}, random words, step answers {answer}", call.name()));
+    trials.try_call("random words", call, &lent, None);
+}
+
 /// The three calls over a record's words, in memory of some length.
 fn try_record(
     trials: &mut Trials,
@@ -134,7 +155,7 @@ fn try_record(
         tally.count_if(due == 7 && lending.is_short(), &format!("{call_name}, 7 before 6"));
         tally.count_if(due == 7 && short_output, "print, 7 before 8");
         tally.count_if(due == 6 && short_output, "print, 6 before 8");
-        let after = trials.try_call(name, call, &lent, due);
+        let after = trials.try_call(name, call, &lent, Some(due));
         if due == 0 {
             go_on(trials, call, after);
         }
@@ -157,6 +178,6 @@ fn lend_output(trials: &mut Trials, random: &mut Random, lent: &mut Lent) -> boo
 /// The same call again and again, from what the library has left.
 fn go_on(trials: &mut Trials, call: Call, mut lent: Lent) {
     for _ in 0..FURTHER {
-        lent = trials.try_call("what a call left", call, &lent, 0);
+        lent = trials.try_call("what a call left", call, &lent, Some(0));
     }
 }

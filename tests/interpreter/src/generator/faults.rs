@@ -92,15 +92,15 @@ impl Lines {
         let limit = u64::from(random.between(1, 300));
         let (error_pc, pc) = (random.below(size + 2), random.below(size + 2));
         let mut draft = Draft::new(size as usize, error_pc, pc, pair, limit);
-        for _ in 0..gates {
+        (0..gates).for_each(|_| {
             draft.gate(random.bits(), random.bits() as u8, random.bits() as u8);
-        }
-        for index in 0..random.between(3, 6) as usize {
+        });
+        (0..random.between(3, 6) as usize).for_each(|index| {
             draft.register(2 * index + 1, random.bits() as u8, random.bits() | 1);
-        }
-        for index in 0..random.between(3, 7) as usize {
+        });
+        (0..random.between(3, 7) as usize).for_each(|index| {
             draft.word(index + random.index(2), random.bits() as u8, random.bits() | 1);
-        }
+        });
         draft.word(7, 240, random.bits() | 1);
         let cut = |line: &String| line.split(',').map(str::to_string).collect();
         Lines { lines: draft.lines().iter().map(cut).collect(), names: Vec::new() }
