@@ -15,7 +15,7 @@ pub struct Compared {
 /// "The state at tick k is that after the last step finishing at or before k, or
 /// the loaded one if there is none." The clock never goes back, so these are the
 /// states of a front part.
-fn state_at(trace: &Trace, tick: u64) -> &State {
+pub fn state_at(trace: &Trace, tick: u64) -> &State {
     let done = trace.states[1..].partition_point(|state| state.machine.clock <= tick);
     &trace.states[done]
 }
