@@ -3,9 +3,9 @@
 
 use crate::bases::LONGEST;
 use crate::buffers::Lent;
-use crate::calls::Calls;
-use crate::layout::SPAN;
-use crate::trials::{Call, Trials, LENDINGS};
+use crate::calls::{answer, Calls};
+use crate::layout::{at, SPAN};
+use crate::trials::{Call, Due, Trials, LENDINGS};
 use interpreter::generator::census::Census;
 use interpreter::generator::compose::compose;
 use interpreter::generator::damage::{damage, PLANS};
@@ -89,10 +89,10 @@ pub fn try_load(trials: &mut Trials, random: &mut Random, turn: usize) {
     let mut lent = dirty(random, record, size);
     lending.apply(random, &mut lent, size);
     let is_early = text.number > 0 && text.line <= 1;
-    let due = match (record < SPAN, lending.is_short()) {
-        (true, _) => 7,
-        (false, true) if !is_early => 6,
-        _ => text.number,
+    let (due, line) = match (record < SPAN, lending.is_short()) {
+        (true, _) => (7, 0),
+        (false, true) if !is_early => (6, 1),
+        _ => (text.number, text.line),
     };
     let tally = &mut trials.tally;
     tally.count(&format!("load, {record_name}"));
@@ -108,7 +108,7 @@ pub fn try_load(trials: &mut Trials, random: &mut Random, turn: usize) {
     }
     let name = format!("load of\n{}", String::from_utf8_lossy(&text.bytes));
     let make = |calls: &dyn Calls, lent: &mut Lent| lent.load(calls, &text.bytes);
-    trials.compare(&name, make, &lent, Some(due));
+    trials.compare(&name, make, &lent, Due::Answer(answer(due, line)));
 }
 
 /// One cabinet, many files: each is loaded, stepped, run and printed in the
@@ -123,12 +123,12 @@ pub fn try_cabinet(trials: &mut Trials, random: &mut Random, files: usize) {
             last = text(random, turn);
         }
         let make = |calls: &dyn Calls, lent: &mut Lent| lent.load(calls, &last.bytes);
-        lent = trials.compare("load in a cabinet", make, &lent, Some(last.number));
-        let limit = lent.record.get()[1];
+        lent = trials.compare("load in a cabinet", make, &lent, Due::Number(last.number));
+        let limit = lent.record.get()[at::LIMIT];
         if last.number == 0 && limit <= LONGEST {
-            lent = trials.try_call("a file in a cabinet", Call::Step, &lent, Some(0));
-            lent = trials.try_call("a file in a cabinet", Call::Run, &lent, Some(0));
-            lent = trials.try_call("a file in a cabinet", Call::Print, &lent, Some(0));
+            lent = trials.try_call("a file in a cabinet", Call::Step, &lent, Due::Number(0));
+            lent = trials.try_call("a file in a cabinet", Call::Run, &lent, Due::Number(0));
+            lent = trials.try_call("a file in a cabinet", Call::Print, &lent, Due::Number(0));
         }
     }
 }

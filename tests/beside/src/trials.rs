@@ -14,6 +14,27 @@ use interpreter::generator::random::Random;
 /// Differences are shown up to this number.
 const SHOWN: u64 = 5;
 
+/// What answer is due.
+#[derive(Clone, Copy, Debug, PartialEq, Eq)]
+pub enum Due {
+    /// It is not known.
+    Open,
+    /// A number, with any count beside it.
+    Number(u64),
+    /// A number and a count.
+    Answer(u64),
+}
+
+impl Due {
+    fn is_met(self, given: u64) -> bool {
+        match self {
+            Due::Open => true,
+            Due::Number(due) => number(given) == due,
+            Due::Answer(due) => given == due,
+        }
+    }
+}
+
 /// Step, run or print.
 #[derive(Clone, Copy, Debug, PartialEq, Eq)]
 pub enum Call {
@@ -121,26 +142,25 @@ impl Trials {
         Trials { tally, passed: 0, failed: 0 }
     }
 
-    /// Calls both; the number that is due is given where it is known. Gives
-    /// what the library left.
-    pub fn try_call(&mut self, name: &str, call: Call, lent: &Lent, due: Option<u64>) -> Lent {
+    /// Makes a call of both. Gives what the library left.
+    pub fn try_call(&mut self, name: &str, call: Call, lent: &Lent, due: Due) -> Lent {
         let made = |calls: &dyn Calls, lent: &mut Lent| call.make(calls, lent);
         self.tally.count(&format!("{}, {name}", call.name()));
         self.compare(&format!("{} of {name}", call.name()), made, lent, due)
     }
 
-    /// The two answers and all that was lent are the same, the number is the one
-    /// that is due, if that is known, and a refusal has left everything.
+    /// The two answers and all that was lent are the same, the answer is the one
+    /// that is due, and a refusal has left everything.
     pub fn compare(
         &mut self,
         name: &str,
         make: impl Fn(&dyn Calls, &mut Lent) -> u64,
         before: &Lent,
-        due: Option<u64>,
+        due: Due,
     ) -> Lent {
         let (mut ours, mut theirs) = (before.clone(), before.clone());
         let answers = (make(&Library, &mut ours), make(&Other, &mut theirs));
-        let is_due = due.is_none_or(|due| number(answers.0) == due && number(answers.1) == due);
+        let is_due = due.is_met(answers.0) && due.is_met(answers.1);
         let left = number(answers.0) == 0 || ours == *before;
         if answers.0 == answers.1 && ours == theirs && is_due && left {
             self.passed += 1;

@@ -17,7 +17,7 @@ use beside::no_records::no_records;
 use beside::other::Other;
 use beside::random_records::change;
 use beside::tally::Tally;
-use beside::trials::{Call, Trials, CALLS, LENDINGS};
+use beside::trials::{Call, Due, Trials, CALLS, LENDINGS};
 use beside::verdict::close;
 use interpreter::generator::random::Random;
 use std::env;
@@ -96,17 +96,12 @@ fn try_unfit(trials: &mut Trials, random: &mut Random, base: &Base) {
     for way in breaks() {
         let mut changed = base.clone();
         (way.prepare)(&mut changed.machine);
-        try_record(
-            trials,
-            random,
-            "a prepared record",
-            &changed,
-            &words_of(&changed.machine),
-            true,
-        );
+        let prepared = words_of(&changed.machine);
+        try_record(trials, random, "a prepared record", &changed, &prepared, true);
         (way.spoil)(&mut changed.machine);
         changed.fit_memory(random);
-        try_record(trials, random, way.name, &changed, &words_of(&changed.machine), false);
+        let spoilt = words_of(&changed.machine);
+        try_record(trials, random, way.name, &changed, &spoilt, false);
     }
 }
 
@@ -128,7 +123,7 @@ fn try_random_record(trials: &mut Trials, random: &mut Random, base: &Base) {
     lent.output.lend(random.pick(&[0, 100, 65_536]), 0);
     let answer = number(lent.clone().step(&Library));
     trials.tally.count(&format!("{}, random words, step answers {answer}", call.name()));
-    trials.try_call("random words", call, &lent, None);
+    trials.try_call("random words", call, &lent, Due::Open);
 }
 
 /// The three calls over a record's words, in memory of some length.
@@ -155,7 +150,7 @@ fn try_record(
         tally.count_if(due == 7 && lending.is_short(), &format!("{call_name}, 7 before 6"));
         tally.count_if(due == 7 && short_output, "print, 7 before 8");
         tally.count_if(due == 6 && short_output, "print, 6 before 8");
-        let after = trials.try_call(name, call, &lent, Some(due));
+        let after = trials.try_call(name, call, &lent, Due::Number(due));
         if due == 0 {
             go_on(trials, call, after);
         }
@@ -178,6 +173,6 @@ fn lend_output(trials: &mut Trials, random: &mut Random, lent: &mut Lent) -> boo
 /// The same call again and again, from what the library has left.
 fn go_on(trials: &mut Trials, call: Call, mut lent: Lent) {
     for _ in 0..FURTHER {
-        lent = trials.try_call("what a call left", call, &lent, Some(0));
+        lent = trials.try_call("what a call left", call, &lent, Due::Number(0));
     }
 }

@@ -23,15 +23,19 @@ use std::process::ExitCode;
 /// Differences are shown up to this number.
 const SHOWN: u64 = 3;
 
-/// What must come up, besides the provisos.
-const EXPECTED: [&str; 11] = [
+/// How far a pair came with a hidden upcall, and the name under which it counts.
+const CAME: [(Came, &str); 3] = [
+    (Came::Back, "pairs through a hidden upcall and back"),
+    (Came::BackByDifferentRuns, "pairs through it by different hidden runs"),
+    (Came::BackToWrites, "pairs through it by different hidden runs, back to visible writes"),
+];
+
+/// What must come up besides.
+const EXPECTED: [&str; 8] = [
     "pairs",
     "ticks compared",
     "calls of run",
     "calls refused",
-    "pairs through a hidden upcall and back",
-    "pairs through a hidden upcall and back, by different hidden runs",
-    "pairs through a hidden upcall and back, by different hidden runs, to visible writes",
     "pairs hidden at the start",
     "pairs of which one is stopped before its end",
     "pairs of which both have ended",
@@ -55,6 +59,7 @@ fn main() -> ExitCode {
         _ => &Library,
     };
     let mut expected = EXPECTED.map(str::to_string).to_vec();
+    expected.extend(CAME.map(|(_, name)| name.to_string()));
     expected.extend(NAMES.map(cut_off));
     expected.extend(NAMES.map(differs));
     let random = Random::new(number(0).unwrap_or(1));
@@ -120,9 +125,7 @@ impl Trial<'_> {
         let all = bound == unreached(one, other);
         let tally = &mut self.tally;
         tally.count("pairs");
-        tally.count_if(came >= Came::Back, EXPECTED[4]);
-        tally.count_if(came >= Came::BackByDifferentRuns, EXPECTED[5]);
-        tally.count_if(came >= Came::BackToWrites, EXPECTED[6]);
+        CAME.iter().for_each(|(far, name)| tally.count_if(came >= *far, name));
         tally.count_if(!one.states[0].shows_control(level), "pairs hidden at the start");
         tally.count_if(ended.0 != ended.1, "pairs of which one is stopped before its end");
         tally.count_if(ended == (true, true), "pairs of which both have ended");

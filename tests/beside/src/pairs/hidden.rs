@@ -17,8 +17,9 @@ fn point(state: &State) -> (u64, u32) {
     (state.machine.clock, state.machine.pc)
 }
 
-/// The visits of a trace that came back before the bound. Only an upcall leads
-/// from p within to p outside and back.
+/// The visits of a trace that came back before the bound. Under the provisos
+/// nothing but the close of an upcall brings p back within; op 17 in an upcall
+/// that is seen may have hidden it.
 fn visits(level: Label, trace: &Trace, bound: u64) -> Vec<Visit> {
     let mut visits = Vec::new();
     let mut open: Option<Visit> = None;
