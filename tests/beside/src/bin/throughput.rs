@@ -86,16 +86,16 @@ fn show_rate(name: &str, bytes: usize, lines: f64, (ours, theirs): (f64, f64)) {
     println!("{name:<16} {rate:>12.1} {other:>12.1} {ratio:>8.2}   {per_line:.0} ns a line, {bytes} bytes");
 }
 
-/// The library's run of each loop, in nanoseconds a tick, by limit.
+/// The library's run of each loop by limit, in milliseconds, and how many times
+/// as long the longest takes as the shortest, which has a 256th of its ticks.
 fn show_growth(rounds: u32) {
-    let limits: String =
-        LIMITS.iter().map(|power| format!(" {:>12}", format!("2^{power} ticks"))).collect();
-    println!("{:<16}{limits}   library's run, ms", "loop");
+    let limits = LIMITS.map(|power| format!(" {:>10}", format!("2^{power}")));
+    println!("{:<16}{} {:>8}   library's run, ms by ticks", "loop", limits.concat(), "times");
     for case in loops() {
         let text = case.image.text();
         let times = LIMITS.map(|power| run_time(rounds, &text, 1 << power) * 1e3);
-        let shown: String = times.iter().map(|time| format!(" {time:>12.3}")).collect();
-        println!("{:<16}{shown}", case.name);
+        let shown = times.map(|time| format!(" {time:>10.3}"));
+        println!("{:<16}{} {:>8.1}", case.name, shown.concat(), times[4] / times[0]);
     }
 }
 
