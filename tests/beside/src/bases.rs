@@ -4,7 +4,7 @@
 use interpreter::generator::census::Census;
 use interpreter::generator::compose::compose;
 use interpreter::generator::random::Random;
-use interpreter::{load, Machine};
+use interpreter::Machine;
 
 /// A run called on a record that was changed must end soon.
 pub const LONGEST: u64 = 2_000;
@@ -21,10 +21,7 @@ impl Base {
     /// Loads a generated image and does some of its steps.
     pub fn make(random: &mut Random) -> Base {
         let draft = compose(random, &Census::new());
-        let mut words = vec![0; draft.words.len()];
-        let mut labels = vec![0; draft.words.len()];
-        let loaded = load(&draft.text(), &mut words, &mut labels);
-        let mut machine = loaded.expect("a composed image is accepted");
+        let (mut machine, mut words, labels) = draft.loaded();
         machine.limit = machine.limit.min(LONGEST);
         let steps = random.pick(&[0, 3, 10, 30, 100, 1_000]);
         for _ in 0..random.between(0, steps) {

@@ -2,7 +2,9 @@
 //! sides, so that a byte touched beyond shows.
 
 use crate::calls::Calls;
+use crate::layout::SPAN;
 use interpreter::generator::random::Random;
+use interpreter::machine::MAX_SIZE;
 use std::ops::Range;
 
 /// So many elements lie around what is lent.
@@ -56,6 +58,16 @@ pub struct Lent {
 }
 
 impl Lent {
+    /// What a program of its own lends: the greatest memory, and output enough.
+    pub fn whole() -> Lent {
+        Lent {
+            record: Buffer::around(&[0; SPAN], 0),
+            words: Buffer::around(&[0; MAX_SIZE as usize], 0),
+            labels: Buffer::around(&[0; MAX_SIZE as usize], 0),
+            output: Buffer::around(&[0; 65_536], 0),
+        }
+    }
+
     /// The record and just its memory; the margins hold what comes.
     pub fn of(random: &mut Random, record: &[u64], words: &[u32], labels: &[u8]) -> Lent {
         Lent {

@@ -1,22 +1,11 @@
 //! Where the library and the interpreter part on one image: the load, the first
 //! step, or the print.
 
-use crate::buffers::{Buffer, Lent};
+use crate::buffers::Lent;
 use crate::calls::Calls;
-use crate::layout::{at, read, word_name, SPAN};
+use crate::layout::{at, read, word_name};
 use crate::library::Library;
 use crate::other::Other;
-use interpreter::machine::MAX_SIZE;
-
-/// What a program of its own lends: the greatest memory and output enough.
-fn all_lent() -> Lent {
-    Lent {
-        record: Buffer::around(&[0; SPAN], 0),
-        words: Buffer::around(&[0; MAX_SIZE as usize], 0),
-        labels: Buffer::around(&[0; MAX_SIZE as usize], 0),
-        output: Buffer::around(&[0; 65_536], 0),
-    }
-}
 
 /// The library and the interpreter on the same image.
 struct Both {
@@ -79,7 +68,7 @@ fn place<T: Copy + PartialEq + Into<u64>>(ours: &[T], theirs: &[T]) -> Option<(u
 
 /// The first call at which the two part, told in words.
 pub fn first_parting(text: &[u8]) -> String {
-    let mut both = Both { ours: all_lent(), theirs: all_lent() };
+    let mut both = Both { ours: Lent::whole(), theirs: Lent::whole() };
     match both.call(|calls, lent| lent.load(calls, text)) {
         Err(what) => return format!("they part at the load: {what}"),
         Ok(0) => {}

@@ -8,7 +8,7 @@ use beside::pairs::seen::{are_alike, State};
 use beside::pairs::trace::Trace;
 use interpreter::draft::Draft;
 use interpreter::instruction::{encode, encode_registers, op};
-use interpreter::{load, Label, Pair};
+use interpreter::{Label, Pair};
 
 /// The level of all these: what is labelled 240 is seen, 255 is not.
 const LEVEL: Label = Label(240);
@@ -27,9 +27,7 @@ fn image(p: u8, t: u8, code: &[u32]) -> Draft {
 
 /// The states of so many steps.
 fn trace(draft: &Draft, steps: usize) -> Trace {
-    let mut words = vec![0; draft.words.len()];
-    let mut labels = vec![0; draft.words.len()];
-    let mut machine = load(&draft.text(), &mut words, &mut labels).unwrap();
+    let (mut machine, mut words, labels) = draft.loaded();
     let mut states = vec![State { machine: machine.clone(), words: words.clone(), labels }];
     for _ in 0..steps {
         let labels = states[0].labels.clone();

@@ -4,9 +4,9 @@
 
 #![forbid(unsafe_code)]
 
-use beside::buffers::{Buffer, Lent};
+use beside::buffers::Lent;
 use beside::calls::{count, Calls};
-use beside::layout::{at, SPAN};
+use beside::layout::at;
 use beside::library::Library;
 use beside::other::Other;
 use interpreter::draft::Draft;
@@ -37,16 +37,6 @@ fn longest() -> Vec<u8> {
     draft.text()
 }
 
-/// What a program of its own lends.
-fn all_lent() -> Lent {
-    Lent {
-        record: Buffer::around(&[0; SPAN], 0),
-        words: Buffer::around(&[0; MAX_SIZE as usize], 0),
-        labels: Buffer::around(&[0; MAX_SIZE as usize], 0),
-        output: Buffer::around(&[0; 65_536], 0),
-    }
-}
-
 /// The seconds of the best round.
 fn best(rounds: u32, mut work: impl FnMut()) -> f64 {
     let mut best = f64::INFINITY;
@@ -63,7 +53,7 @@ fn show_text(rounds: u32) {
     let text = longest();
     let lines = text.iter().filter(|&&byte| byte == b'\n').count() as f64;
     println!("{:<16} {:>12} {:>12} {:>8}", "longest image", "ours, MB/s", "Rust, MB/s", "ratio");
-    let mut lent = all_lent();
+    let mut lent = Lent::whole();
     let mut load = |calls: &dyn Calls| {
         best(rounds, || (0..CALLS).for_each(|_| assert_eq!(lent.load(calls, &text), 0)))
     };
@@ -101,7 +91,7 @@ fn show_growth(rounds: u32) {
 
 /// The best time of a run under this limit.
 fn run_time(rounds: u32, text: &[u8], limit: u64) -> f64 {
-    let mut loaded = all_lent();
+    let mut loaded = Lent::whole();
     assert_eq!(loaded.load(&Library, text), 0);
     loaded.record.get_mut()[at::LIMIT] = limit;
     let mut lent = loaded.clone();

@@ -9,7 +9,7 @@ use interpreter::generator::labels::{not_below, valid_pair};
 use interpreter::generator::random::Random;
 use interpreter::instruction::{encode, op};
 use interpreter::machine::end;
-use interpreter::{load, Label, Machine, Register};
+use interpreter::{Label, Machine, Register};
 
 /// The second machine may loop where the first one halts; no run is longer.
 const LONGEST: u64 = 400;
@@ -93,10 +93,7 @@ fn hidden_from(before: &Machine, after: &Machine) -> Option<Label> {
 
 /// Runs the image and notes the levels.
 fn watch(draft: &Draft) -> Levels {
-    let mut words = vec![0; draft.words.len()];
-    let mut labels = vec![0; draft.words.len()];
-    let loaded = load(&draft.text(), &mut words, &mut labels);
-    let mut machine = loaded.expect("a composed image is accepted");
+    let (mut machine, mut words, labels) = draft.loaded();
     let mut levels = Levels::default();
     while machine.end == end::RUNNING {
         let before = machine.clone();

@@ -14,7 +14,6 @@ use super::words::word_of;
 use crate::draft::Draft;
 use crate::instruction::{op, Instruction};
 use crate::label::{Label, Pair};
-use crate::load::load;
 use crate::machine::{end, Machine, MAX_LIMIT};
 use crate::step::Event;
 
@@ -51,10 +50,7 @@ pub fn compose(random: &mut Random, census: &Census) -> Draft {
 
 impl Writer {
     fn start(draft: Draft) -> Writer {
-        let mut words = vec![0; draft.words.len()];
-        let mut labels = vec![0; draft.words.len()];
-        let machine = load(&draft.text(), &mut words, &mut labels);
-        let machine = machine.expect("a draft's text is accepted");
+        let (machine, words, labels) = draft.loaded();
         let decided = vec![false; words.len()];
         Writer {
             draft,
