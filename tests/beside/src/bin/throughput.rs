@@ -72,8 +72,10 @@ fn show_rate(name: &str, bytes: usize, lines: f64, (ours, theirs): (f64, f64)) {
     let megabytes = bytes as f64 * f64::from(CALLS) / 1e6;
     let (rate, other) = (megabytes / ours, megabytes / theirs);
     let ratio = theirs / ours;
-    let per_line = ours * 1e9 / f64::from(CALLS) / lines;
-    println!("{name:<16} {rate:>12.1} {other:>12.1} {ratio:>8.2}   {per_line:.0} ns a line, {bytes} bytes");
+    let line = ours * 1e9 / f64::from(CALLS) / lines;
+    println!(
+        "{name:<16} {rate:>12.1} {other:>12.1} {ratio:>8.2}   {line:.0} ns a line, {bytes} bytes"
+    );
 }
 
 /// The library's run of each loop by limit, in milliseconds, and how many times

@@ -50,7 +50,7 @@ fn last_write(level: Label, trace: &Trace, bound: u64) -> Option<u64> {
             .any(|(a, b)| is_within(a.label, level) && seen(a, level) != seen(b, level));
         changed && step[0].shows_control(level) && step[1].machine.clock < bound
     };
-    let step = trace.states.windows(2).filter(writes).last()?;
+    let step = trace.states.windows(2).rfind(writes)?;
     Some(step[1].machine.clock)
 }
 
