@@ -8,7 +8,7 @@ use beside::calls::Calls;
 use beside::library::Library;
 use beside::other::Other;
 use beside::pairs::check::{compare, unreached};
-use beside::pairs::hidden::{came, Came};
+use beside::pairs::hidden::{came, came_over_gate, Came};
 use beside::pairs::make::Pair;
 use beside::pairs::provisos::{both, bounds, first_broken, Bounds, NAMES};
 use beside::pairs::seen::are_alike;
@@ -31,11 +31,12 @@ const CAME: [(Came, &str); 3] = [
 ];
 
 /// What must come up besides.
-const EXPECTED: [&str; 8] = [
+const EXPECTED: [&str; 9] = [
     "pairs",
     "ticks compared",
     "calls of run",
     "calls refused",
+    "pairs through a hidden upcall over a gate call and back",
     "pairs hidden at the start",
     "pairs of which one is stopped before its end",
     "pairs of which both have ended",
@@ -121,11 +122,13 @@ impl Trial<'_> {
     /// Counts what kind of pair it is.
     fn count(&mut self, level: Label, one: &Trace, other: &Trace, bound: u64) {
         let came = came(level, one, other, bound);
+        let over_gate = came_over_gate(level, one, bound) && came_over_gate(level, other, bound);
         let ended = (one.unreached().is_none(), other.unreached().is_none());
         let all = bound == unreached(one, other);
         let tally = &mut self.tally;
         tally.count("pairs");
         CAME.iter().for_each(|(far, name)| tally.count_if(came >= *far, name));
+        tally.count_if(over_gate, "pairs through a hidden upcall over a gate call and back");
         tally.count_if(!one.states[0].shows_control(level), "pairs hidden at the start");
         tally.count_if(ended.0 != ended.1, "pairs of which one is stopped before its end");
         tally.count_if(ended == (true, true), "pairs of which both have ended");

@@ -9,8 +9,17 @@ use interpreter::Label;
 struct Visit {
     opened: u64,
     closed: u64,
+    /// Whether it stands over a gate call.
+    over_gate: bool,
     /// The clock and the pc of each state in it.
     run: Vec<(u64, u32)>,
+}
+
+impl Visit {
+    fn open(state: &State) -> Visit {
+        let over_gate = !state.machine.second.is_empty();
+        Visit { opened: state.machine.clock, closed: 0, over_gate, run: vec![point(state)] }
+    }
 }
 
 fn point(state: &State) -> (u64, u32) {
@@ -26,9 +35,7 @@ fn visits(level: Label, trace: &Trace, bound: u64) -> Vec<Visit> {
     for step in trace.states.windows(2) {
         let (clock, _) = point(&step[1]);
         match (step[0].shows_control(level), step[1].shows_control(level)) {
-            (true, false) => {
-                open = Some(Visit { opened: clock, closed: 0, run: vec![point(&step[1])] })
-            }
+            (true, false) => open = Some(Visit::open(&step[1])),
             (false, false) => open.iter_mut().for_each(|visit| visit.run.push(point(&step[1]))),
             (false, true) => {
                 visits.extend(open.take().map(|visit| Visit { closed: clock, ..visit }))
@@ -82,4 +89,9 @@ pub fn came(level: Label, one: &Trace, other: &Trace, bound: u64) -> Came {
         });
     }
     came
+}
+
+/// Whether a trace came back, before the bound, from an upcall over a gate call.
+pub fn came_over_gate(level: Label, trace: &Trace, bound: u64) -> bool {
+    visits(level, trace, bound).iter().any(|visit| visit.over_gate)
 }
