@@ -71,7 +71,8 @@ extern "C" {
 /* ---- the calls. A refused call leaves the record, words, labels and output as they were. */
 
 /* Loads a text. The record goes to its buffer, the memory to words and labels below the size. Answers a number, 0 to 7,
- * and 256 times the line that was refused. A record buffer shorter than JENNYDUSK_SPAN is 7, before the text is read. */
+ * and 256 times the line that was refused. A record buffer shorter than JENNYDUSK_SPAN is 7, before the text is read. A
+ * load sets the words of the gates that no line names to 0. */
 uint64_t jennydusk_load(const uint8_t *text, size_t text_length, uint32_t *words, size_t words_length, uint8_t *labels,
                         size_t labels_length, uint64_t *record, size_t record_length);
 

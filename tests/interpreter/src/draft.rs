@@ -3,7 +3,8 @@
 //! The loader's counterpart, for the timing loops, the generator and the tests.
 
 use crate::label::{Label, Pair};
-use crate::machine::{Gate, Register};
+use crate::load::load;
+use crate::machine::{Gate, Machine, Register};
 
 /// An image before it is text. A word of memory is, like a register, a value
 /// and a label.
@@ -71,6 +72,14 @@ impl Draft {
         lines.extend(location_lines('R', &self.registers));
         lines.extend(location_lines('W', &self.words));
         lines
+    }
+
+    /// The image loaded into memory of just its size.
+    pub fn loaded(&self) -> (Machine, Vec<u32>, Vec<u8>) {
+        let mut words = vec![0; self.words.len()];
+        let mut labels = vec![0; self.words.len()];
+        let machine = load(&self.text(), &mut words, &mut labels);
+        (machine.expect("a draft's text is accepted"), words, labels)
     }
 
     /// The lines, each with its LF.

@@ -7,6 +7,7 @@
 #![forbid(unsafe_code)]
 
 pub mod draft;
+pub mod fire;
 pub mod generator;
 pub mod instruction;
 pub mod label;
@@ -17,6 +18,7 @@ mod ops;
 pub mod print;
 pub mod step;
 
+pub use fire::fire;
 pub use label::{Label, Pair};
 pub use load::{load, Refusal};
 pub use machine::{is_fit, Call, Gate, Machine, Register, Return};

@@ -33,17 +33,13 @@ pub fn print(
 /// calls, older first ...; then R and W lines that differ from value 0, label
 /// 240."
 fn listing(machine: &Machine, words: &[u32], labels: &[u8]) -> String {
-    let mut listing = end_line(machine);
-    listing += &call_line(machine.first);
-    listing += &call_line(machine.second);
-    for (number, register) in machine.registers.iter().enumerate() {
-        listing += &location_line('R', number, register.label, register.value);
-    }
-    let memory = words.iter().zip(labels).take(machine.size as usize);
-    for (address, (&value, &label)) in memory.enumerate() {
-        listing += &location_line('W', address, Label(label), value);
-    }
-    listing
+    let registers = machine.registers.iter().map(|register| (register.label, register.value));
+    let memory = labels.iter().map(|&label| Label(label)).zip(words.iter().copied());
+    end_line(machine)
+        + &call_line(machine.first)
+        + &call_line(machine.second)
+        + &location_lines('R', registers)
+        + &location_lines('W', memory.take(machine.size as usize))
 }
 
 /// "`E,end,why,clock,place,p,t`"
@@ -61,6 +57,15 @@ fn call_line(call: Call) -> String {
         Call::Upcall(back, end_tick) => (2, back, end_tick),
     };
     format!("F,{kind},{pc},{},{},{end_tick}\n", pair.pc.0, pair.timing.0)
+}
+
+/// The lines of all registers or all words below the size.
+fn location_lines(letter: char, locations: impl Iterator<Item = (Label, u32)>) -> String {
+    let mut lines = String::new();
+    for (number, (label, value)) in locations.enumerate() {
+        lines += &location_line(letter, number, label, value);
+    }
+    lines
 }
 
 /// "R and W lines that differ from value 0, label 240"

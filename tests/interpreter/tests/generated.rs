@@ -28,6 +28,7 @@ fn three_thousand_images_meet_every_kind() {
             generator.next_image();
         }
         assert_eq!(generator.census.unmet(), Vec::<String>::new());
+        assert_eq!(generator.census.strange(), Vec::<&str>::new());
     }
 }
 

@@ -2,6 +2,8 @@
 //!
 //! Images are counted, not steps: a loop would count one thing many times.
 
+use super::damage::PLANS;
+use super::faults::FAULTS;
 use crate::instruction::op;
 use crate::machine::{Call, Machine};
 use std::collections::BTreeMap;
@@ -13,7 +15,7 @@ pub const CONTEXTS: [&str; 4] =
 
 /// Everything besides the ops that a run can meet. All are listed, so that one
 /// that is never met shows up with the count 0.
-const NOTES: [&str; 70] = [
+const NOTES: [&str; 73] = [
     "end 1 with no call open",
     "end 1 with a gate call open",
     "end 2 with no call open",
@@ -66,6 +68,9 @@ const NOTES: [&str; 70] = [
     "spent at clock = limit with an upcall over a gate call open",
     "spent at clock = limit where a fetch would stall",
     "op finishes at the limit",
+    "op would finish one tick beyond the limit",
+    "halt finishes at the limit",
+    "stall one tick before the limit",
     "close finishes at the limit",
     "close is one tick beyond the limit",
     "late op beyond the limit closes within it",
@@ -90,8 +95,22 @@ const NOTES: [&str; 70] = [
 pub struct Census {
     /// By context, op, and 0 for a failed or 1 for a passed check.
     ops: [[[u64; 2]; 23]; 4],
+    /// By op: not carried out in an upcall because it is late, and not carried
+    /// out because of the limit.
+    undone: [[u64; 2]; 23],
     notes: BTreeMap<&'static str, u64>,
+    /// What no run should meet.
+    strange: BTreeMap<String, u64>,
+    /// By plan and by fault, what was done to damaged images.
     damages: BTreeMap<String, u64>,
+}
+
+/// Why an op that was fetched is not carried out, and why it doesn't close an
+/// upcall by itself either.
+#[derive(Clone, Copy, Debug, PartialEq, Eq)]
+pub enum Undone {
+    Late,
+    BeyondLimit,
 }
 
 /// Which of the four shapes the open calls have.
@@ -117,6 +136,20 @@ pub fn is_possible(context: usize, number: u8, passed: bool) -> bool {
     }
 }
 
+/// Ops 19 and 22 close an upcall, late or not. An op of one tick is beyond the
+/// limit only at clock = limit, where nothing is fetched.
+fn can_be_undone(number: u8, undone: Undone) -> bool {
+    match undone {
+        Undone::Late => number != op::END_UPCALL && number != op::HALT,
+        Undone::BeyondLimit => matches!(
+            number,
+            op::MULTIPLY..=op::STORE
+                | op::RAISE..=op::UPCALL
+                | op::GATE_CALL..=op::GATE_RETURN
+        ),
+    }
+}
+
 impl Default for Census {
     fn default() -> Census {
         Census::new()
@@ -126,7 +159,11 @@ impl Default for Census {
 impl Census {
     pub fn new() -> Census {
         let notes = NOTES.iter().map(|&name| (name, 0)).collect();
-        Census { ops: [[[0; 2]; 23]; 4], notes, damages: BTreeMap::new() }
+        let plans = PLANS.iter().map(|plan| format!("damage {plan:?}"));
+        let faults = FAULTS.iter().map(|fault| fault.to_string());
+        let damages = plans.chain(faults).map(|name| (name, 0)).collect();
+        let (ops, undone) = ([[[0; 2]; 23]; 4], [[0; 2]; 23]);
+        Census { ops, undone, notes, strange: BTreeMap::new(), damages }
     }
 
     /// Adds what one image has met: each kind once, however often it came up.
@@ -135,9 +172,11 @@ impl Census {
         for (sum, count) in sums.zip(seen.ops.iter().flatten().flatten()) {
             *sum += (*count).min(1);
         }
-        for (name, count) in &seen.notes {
-            *self.notes.entry(name).or_insert(0) += (*count).min(1);
-        }
+        let sums = self.undone.iter_mut().flatten();
+        sums.zip(seen.undone.iter().flatten()).for_each(|(sum, count)| *sum += (*count).min(1));
+        let sums = self.notes.values_mut();
+        sums.zip(seen.notes.values()).for_each(|(sum, count)| *sum += (*count).min(1));
+        seen.strange.keys().for_each(|name| *self.strange.entry(name.clone()).or_insert(0) += 1);
     }
 
     /// In how many images an op has passed or failed in a context.
@@ -149,8 +188,16 @@ impl Census {
         self.ops[context][usize::from(number)][usize::from(passed)] += 1;
     }
 
+    pub fn count_undone(&mut self, number: u8, undone: Undone) {
+        self.undone[usize::from(number)][undone as usize] += 1;
+    }
+
+    /// Counts a note. One that is not in the list is of something that can't be.
     pub fn note(&mut self, name: &str) {
-        *self.notes.get_mut(name).expect("every note is in the list") += 1;
+        match self.notes.get_mut(name) {
+            Some(count) => *count += 1,
+            None => *self.strange.entry(name.to_string()).or_insert(0) += 1,
+        }
     }
 
     pub fn note_if(&mut self, condition: bool, name: &str) {
@@ -162,50 +209,78 @@ impl Census {
     /// Counts what was done to a damaged image.
     pub fn count_damage(&mut self, names: &[String]) {
         for name in names {
-            *self.damages.entry(name.clone()).or_insert(0) += 1;
+            *self.damages.get_mut(name).expect("every plan and fault is in a list") += 1;
         }
+    }
+
+    /// What was met and can't be.
+    pub fn strange(&self) -> Vec<&str> {
+        self.strange.keys().map(String::as_str).collect()
     }
 
     /// The kinds that no image has met yet.
     pub fn unmet(&self) -> Vec<String> {
-        let mut unmet = Vec::new();
-        for (context, name) in CONTEXTS.iter().enumerate() {
-            for number in op::SET..=op::HALT {
-                for passed in [false, true] {
-                    let met = self.op_count(context, number, passed) > 0;
-                    if !met && is_possible(context, number, passed) {
-                        unmet.push(format!("op {number}, {name}, passed: {passed}"));
-                    }
-                }
-            }
-        }
         let notes = self.notes.iter().filter(|(_, &count)| count == 0);
-        unmet.extend(notes.map(|(name, _)| name.to_string()));
+        let damages = self.damages.iter().filter(|(_, &count)| count == 0);
+        let mut unmet: Vec<String> = notes.map(|(name, _)| name.to_string()).collect();
+        unmet.extend(damages.map(|(name, _)| name.clone()));
+        unmet.extend((op::SET..=op::HALT).flat_map(|number| self.unmet_of_op(number)));
         unmet
+    }
+
+    /// The outcomes of an op that no image has met yet.
+    fn unmet_of_op(&self, number: u8) -> Vec<String> {
+        let outcomes = (0..CONTEXTS.len()).flat_map(|context| [(context, false), (context, true)]);
+        let possible = outcomes.filter(|&(context, passed)| is_possible(context, number, passed));
+        let missing =
+            possible.filter(|&(context, passed)| self.op_count(context, number, passed) == 0);
+        let named = missing.map(|(context, passed)| {
+            format!("op {number} with {}, passed: {passed}", CONTEXTS[context])
+        });
+        let undone = [Undone::Late, Undone::BeyondLimit].into_iter();
+        let undone = undone.filter(|&undone| can_be_undone(number, undone));
+        let undone =
+            undone.filter(|&undone| self.undone[usize::from(number)][undone as usize] == 0);
+        named.chain(undone.map(|undone| format!("op {number} {undone:?}"))).collect()
+    }
+
+    /// A count, or a dash for what can't be.
+    fn shown(count: u64, is_possible: bool) -> String {
+        if is_possible {
+            count.to_string()
+        } else {
+            "-".to_string()
+        }
+    }
+
+    /// An op's row: passed and failed in each context, late, beyond the limit.
+    fn row(&self, number: u8) -> String {
+        let mut row = format!("op {number:>2}:");
+        for context in 0..CONTEXTS.len() {
+            let [passed, failed] = [true, false].map(|passed| {
+                let count = self.op_count(context, number, passed);
+                Census::shown(count, is_possible(context, number, passed))
+            });
+            row += &format!(" {passed:>6}/{failed:>6}");
+        }
+        let [late, beyond] = [Undone::Late, Undone::BeyondLimit].map(|undone| {
+            let count = self.undone[usize::from(number)][undone as usize];
+            Census::shown(count, can_be_undone(number, undone))
+        });
+        row + &format!(" {late:>6} {beyond:>6}\n")
     }
 }
 
 impl fmt::Display for Census {
     fn fmt(&self, out: &mut fmt::Formatter) -> fmt::Result {
-        writeln!(out, "images in which an op passed/failed with {}", CONTEXTS.join(", with "))?;
-        for number in op::SET..=op::HALT {
-            write!(out, "op {number:>2}:")?;
-            for context in 0..CONTEXTS.len() {
-                for passed in [true, false] {
-                    let count = self.op_count(context, number, passed);
-                    let possible = is_possible(context, number, passed);
-                    let shown = if possible { count.to_string() } else { "-".to_string() };
-                    write!(out, "{}{shown:>6}", if passed { " " } else { "/" })?;
-                }
-            }
-            writeln!(out)?;
-        }
-        for name in NOTES {
-            writeln!(out, "{name}: {}", self.notes[name])?;
-        }
-        for (name, count) in &self.damages {
-            writeln!(out, "{name}: {count}")?;
-        }
+        writeln!(out, "images in which an op passed/failed with {},", CONTEXTS.join(", with "))?;
+        writeln!(out, "was late in an upcall, and was barred by the limit")?;
+        let rows: String = (op::SET..=op::HALT).map(|number| self.row(number)).collect();
+        let notes: String =
+            NOTES.iter().map(|name| format!("{name}: {}\n", self.notes[name])).collect();
+        let damages: String =
+            self.damages.iter().map(|(name, count)| format!("{name}: {count}\n")).collect();
+        writeln!(out, "{rows}{notes}{damages}kinds met that can't be: {:?}", self.strange())?;
         writeln!(out, "kinds never met: {:?}", self.unmet())
     }
 }

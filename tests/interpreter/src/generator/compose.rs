@@ -14,7 +14,6 @@ use super::words::word_of;
 use crate::draft::Draft;
 use crate::instruction::{op, Instruction};
 use crate::label::{Label, Pair};
-use crate::load::load;
 use crate::machine::{end, Machine, MAX_LIMIT};
 use crate::step::Event;
 
@@ -51,10 +50,7 @@ pub fn compose(random: &mut Random, census: &Census) -> Draft {
 
 impl Writer {
     fn start(draft: Draft) -> Writer {
-        let mut words = vec![0; draft.words.len()];
-        let mut labels = vec![0; draft.words.len()];
-        let machine = load(&draft.text(), &mut words, &mut labels);
-        let machine = machine.expect("a draft's text is accepted");
+        let (machine, words, labels) = draft.loaded();
         let decided = vec![false; words.len()];
         Writer {
             draft,
@@ -156,17 +152,13 @@ impl Writer {
             (2 | 3, 30..=34) => return (op::END_UPCALL, true),
             _ => {}
         }
-        let mut kinds = Vec::new();
-        let mut weights = Vec::new();
-        for number in op::SET..=op::HALT {
-            for passed in [false, true] {
-                if is_possible(shape, number, passed) {
-                    let count = census.op_count(shape, number, passed);
-                    kinds.push((number, passed));
-                    weights.push((1_000_000 / (count + 10)) as u32 + 1);
-                }
-            }
-        }
+        let kinds = (op::SET..=op::HALT).flat_map(|number| [(number, false), (number, true)]);
+        let kinds: Vec<(u8, bool)> =
+            kinds.filter(|&(number, passed)| is_possible(shape, number, passed)).collect();
+        let weight = |&(number, passed): &(u8, bool)| {
+            (1_000_000 / (census.op_count(shape, number, passed) + 10)) as u32 + 1
+        };
+        let weights: Vec<u32> = kinds.iter().map(weight).collect();
         kinds[random.weighted(&weights)]
     }
 

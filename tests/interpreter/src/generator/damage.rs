@@ -28,13 +28,17 @@ pub enum Plan {
     NinthGate(Option<Fault>),
     /// The last LF missing, with another fault on that line or none.
     MissingEnd(Option<Fault>),
+    /// Nothing but a first line without its LF, with another fault on it or none.
+    LoneFirst(Option<Fault>),
     /// One more LF at the end.
     ExtraEnd,
 }
-use Plan::{AlmostLong, Empty, ExtraEnd, Long, MissingEnd, NinthGate, One, OneLine, TwoLines};
+use Plan::{
+    AlmostLong, Empty, ExtraEnd, LoneFirst, Long, MissingEnd, NinthGate, One, OneLine, TwoLines,
+};
 
 /// All plans; they take turns.
-pub const PLANS: [Plan; 48] = [
+pub const PLANS: [Plan; 53] = [
     Empty,
     Long(None),
     Long(Some(Form)),
@@ -81,7 +85,12 @@ pub const PLANS: [Plan; 48] = [
     NinthGate(Some(Form)),
     NinthGate(Some(Kind)),
     MissingEnd(None),
+    MissingEnd(Some(Kind)),
     MissingEnd(Some(Range)),
+    MissingEnd(Some(Rising)),
+    LoneFirst(None),
+    LoneFirst(Some(Range)),
+    LoneFirst(Some(Pair)),
     ExtraEnd,
 ];
 
@@ -113,12 +122,8 @@ pub fn damage(random: &mut Random, plan: Plan) -> Damaged {
         OneLine(fault, other) => ((number(fault), lines.put(random, &[fault, other]) + 1), "\n"),
         TwoLines(fault, other) => ((number(fault), lines.put_two(random, fault, other) + 1), "\n"),
         NinthGate(fault) => (lines.add_ninth_gate(random, fault), "\n"),
-        MissingEnd(fault) => {
-            if let Some(fault) = fault {
-                lines.apply(random, last, &[fault]);
-            }
-            ((2, last + 1), "")
-        }
+        MissingEnd(fault) => (lines.end_at(random, last, fault), ""),
+        LoneFirst(fault) => (lines.end_at(random, 0, fault), ""),
         ExtraEnd => ((2, last + 2), "\n\n"),
     };
     finish(lines, refusal, |mut text| {

@@ -16,6 +16,57 @@ pub enum Fault {
 }
 use Fault::{Form, Kind, Pair, Range, Rising};
 
+/// The names of all that can be done to a line, under which it is counted.
+pub const FAULTS: [&str; 47] = [
+    "form fault: lower-case letter",
+    "form fault: unknown letter",
+    "form fault: letter twice",
+    "form fault: no letter",
+    "form fault: field missing",
+    "form fault: field too many",
+    "form fault: comma at the end",
+    "form fault: empty line",
+    "form fault: first line not M",
+    "form fault: empty field",
+    "form fault: leading zero",
+    "form fault: sign",
+    "form fault: minus",
+    "form fault: blank",
+    "form fault: CR",
+    "form fault: eleven digits",
+    "form fault: quotes",
+    "form fault: not a digit",
+    "kind fault: M behind M",
+    "kind fault: M behind G",
+    "kind fault: M behind R",
+    "kind fault: M behind W",
+    "kind fault: G behind R",
+    "kind fault: G behind W",
+    "kind fault: R behind W",
+    "pair fault: p doesn't flow to t",
+    "pair fault: p isn't sound",
+    "pair fault: t isn't sound",
+    "range fault: M field 1",
+    "range fault: M field 2",
+    "range fault: M field 3",
+    "range fault: M field 4",
+    "range fault: M field 5",
+    "range fault: M field 6",
+    "range fault: G field 1",
+    "range fault: G field 2",
+    "range fault: G field 3",
+    "range fault: R field 1",
+    "range fault: R field 2",
+    "range fault: R field 3",
+    "range fault: W field 1",
+    "range fault: W field 2",
+    "range fault: W field 3",
+    "rising fault: R equal",
+    "rising fault: R falling",
+    "rising fault: W equal",
+    "rising fault: W falling",
+];
+
 /// The lines of an image, each cut into its fields, while being damaged.
 pub struct Lines {
     pub lines: Vec<Vec<String>>,
@@ -41,15 +92,15 @@ impl Lines {
         let limit = u64::from(random.between(1, 300));
         let (error_pc, pc) = (random.below(size + 2), random.below(size + 2));
         let mut draft = Draft::new(size as usize, error_pc, pc, pair, limit);
-        for _ in 0..gates {
+        (0..gates).for_each(|_| {
             draft.gate(random.bits(), random.bits() as u8, random.bits() as u8);
-        }
-        for index in 0..random.between(3, 6) as usize {
+        });
+        (0..random.between(3, 6) as usize).for_each(|index| {
             draft.register(2 * index + 1, random.bits() as u8, random.bits() | 1);
-        }
-        for index in 0..random.between(3, 7) as usize {
+        });
+        (0..random.between(3, 7) as usize).for_each(|index| {
             draft.word(index + random.index(2), random.bits() as u8, random.bits() | 1);
-        }
+        });
         draft.word(7, 240, random.bits() | 1);
         let cut = |line: &String| line.split(',').map(str::to_string).collect();
         Lines { lines: draft.lines().iter().map(cut).collect(), names: Vec::new() }
@@ -119,6 +170,21 @@ impl Lines {
             self.apply(random, line, &[Form]);
         }
         (fault.map_or(3, number), line + 1)
+    }
+
+    /// Makes a line the last one, which is to lose its LF, with another fault or
+    /// none.
+    pub fn end_at(
+        &mut self,
+        random: &mut Random,
+        line: usize,
+        fault: Option<Fault>,
+    ) -> (u8, usize) {
+        self.lines.truncate(line + 1);
+        if let Some(fault) = fault {
+            self.apply(random, line, &[fault]);
+        }
+        (2, line + 1)
     }
 
     /// Applies the faults to a line. The kind is changed before the fields, and

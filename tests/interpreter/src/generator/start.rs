@@ -30,12 +30,7 @@ pub fn start_draft(random: &mut Random) -> Draft {
     let mut draft = Draft::new(size as usize, error_pc, pc, pair, limit);
     let high = higher_pair(random, pair);
     add_gates(random, &mut draft);
-    for number in 0..16 {
-        let near = if random.chance(30) { high } else { pair };
-        let label = labels::location_label(random, near);
-        let value = register_value(random, &draft);
-        draft.register(number, label.0, value);
-    }
+    set_registers(random, &mut draft, high);
     if random.chance(85) {
         lay_out_tools(random, &mut draft, high);
     }
@@ -44,6 +39,16 @@ pub fn start_draft(random: &mut Random) -> Draft {
         word.label = labels::location_label(random, near);
     }
     draft
+}
+
+/// Registers near the labels of the machine and of an upcall from it.
+fn set_registers(random: &mut Random, draft: &mut Draft, high: Pair) {
+    for number in 0..draft.registers.len() {
+        let near = if random.chance(30) { high } else { draft.pair };
+        let label = labels::location_label(random, near);
+        let value = register_value(random, draft);
+        draft.register(number, label.0, value);
+    }
 }
 
 /// A valid pair that an upcall from this one can take.

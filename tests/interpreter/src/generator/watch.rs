@@ -1,6 +1,6 @@
 //! Watching a run: each step is sorted into the kinds of the census.
 
-use super::census::{context, Census, CONTEXTS};
+use super::census::{context, Census, Undone, CONTEXTS};
 use crate::instruction::{op, Instruction};
 use crate::label::Label;
 use crate::load::load;
@@ -62,6 +62,7 @@ fn watch_step(census: &mut Census, watched: &mut Watched) {
     let event = machine.step_watched(words, labels).expect("a loaded record stays fit");
     moment.count_event(census, event, &watched.machine);
     moment.count_op(census, event);
+    moment.count_undone(census, event);
     moment.count_lateness(census, event);
     moment.count_operands(census);
     let stored = moment.count_passed(census, event, &watched.machine);
@@ -115,6 +116,8 @@ impl Moment {
         match event {
             Event::FetchFailed(why) | Event::Stalled(why) => {
                 census.note(&format!("fetch fails with {shape} open, why {why}"));
+                let edge = after.end == end::STALLED && clock + 1 == limit;
+                census.note_if(edge, "stall one tick before the limit");
             }
             Event::Spent if clock == limit => {
                 census.note(&format!("spent at clock = limit with {shape} open"));
@@ -139,6 +142,8 @@ impl Moment {
             }
             Event::Passed | Event::Failed => {
                 census.note_if(after.clock == limit, "op finishes at the limit");
+                let halted = after.end == end::HALTED && after.clock == limit;
+                census.note_if(halted, "halt finishes at the limit");
             }
             Event::Ended => {}
         }
@@ -165,6 +170,22 @@ impl Moment {
         census.note_if(event == Event::Closed(3), &format!("cause 3 by op {number}"));
         let kept_in = number == op::GATE_RETURN && !passed && shape == 1;
         census.note_if(kept_in, "gate return fails: labels, with a gate call on top");
+    }
+
+    /// Counts an op that is not carried out.
+    fn count_undone(&self, census: &mut Census, event: Event) {
+        let Some((instruction, finish)) = self.op else {
+            return;
+        };
+        match event {
+            Event::Closed(2) => census.count_undone(instruction.op(), Undone::Late),
+            Event::Spent if self.before.clock < self.before.limit => {
+                census.count_undone(instruction.op(), Undone::BeyondLimit);
+                let by_one = finish == self.before.limit + 1;
+                census.note_if(by_one, "op would finish one tick beyond the limit");
+            }
+            _ => {}
+        }
     }
 
     /// Counts how an op in an upcall stands to the end tick.

@@ -1,0 +1,178 @@
+//! `calls [SEED [COUNT]]` tries the library's calls beside the interpreter's on
+//! records and memory that no load gives. COUNT is the number of records that
+//! are taken and changed in every way. It prints what was met; the last line is
+//! 'N passed, M failed'.
+
+#![forbid(unsafe_code)]
+
+use beside::bases::Base;
+use beside::breaks::breaks;
+use beside::buffers::Lent;
+use beside::calls::{count, number, Calls};
+use beside::edges::edges;
+use beside::layout::words_of;
+use beside::library::Library;
+use beside::loads::{self, try_cabinet, try_load};
+use beside::no_records::no_records;
+use beside::other::Other;
+use beside::random_records::change;
+use beside::tally::Tally;
+use beside::trials::{Call, Due, Trials, CALLS, LENDINGS};
+use beside::verdict::close;
+use interpreter::generator::random::Random;
+use std::env;
+use std::process::ExitCode;
+
+/// How much output is lent, against the listing's length.
+const OUTPUTS: [&str; 4] = ["just the listing", "short by one", "none", "longer"];
+
+/// So many times each record has words changed at random.
+const RANDOM: u32 = 40;
+
+/// After a call that was carried out, so many more are made.
+const FURTHER: u32 = 4;
+
+fn main() -> ExitCode {
+    let numbers: Vec<u64> = env::args().skip(1).filter_map(|word| word.parse().ok()).collect();
+    let (seed, bases) = match numbers[..] {
+        [] => (1, 300),
+        [seed] => (seed, 300),
+        [seed, bases, ..] => (seed, bases),
+    };
+    let mut random = Random::new(seed);
+    let mut trials = Trials::new(Tally::expecting(expected()));
+    (0..bases).for_each(|_| try_base(&mut trials, &mut random));
+    (0..10 * bases as usize).for_each(|turn| try_load(&mut trials, &mut random, turn));
+    (0..4).for_each(|_| try_cabinet(&mut trials, &mut random, 60));
+    print!("{}", trials.tally);
+    let unmet = trials.tally.unmet();
+    println!("kinds never met: {unmet:?}");
+    close(trials.passed, trials.failed, unmet.len())
+}
+
+/// Every way, for every call; every length of memory and of output; and every
+/// order between two refusals.
+fn expected() -> Vec<String> {
+    let mut names = loads::expected();
+    let ways = breaks().map(|way| way.name).chain(no_records().map(|way| way.name));
+    let records: Vec<&str> = ways.chain(edges().map(|edge| edge.name)).collect();
+    for call in CALLS.map(Call::name) {
+        names.extend(records.iter().map(|name| format!("{call}, {name}")));
+        names.extend(LENDINGS.iter().map(|lending| format!("{call}, {}", lending.name)));
+        names.push(format!("{call}, 7 before 6"));
+    }
+    let random =
+        ["0", "6", "7"].map(|answer| format!("print, random words, step answers {answer}"));
+    names.extend(random);
+    names.extend(OUTPUTS.map(|name| format!("print, output {name}")));
+    names.extend(["print, 7 before 8", "print, 6 before 8"].map(str::to_string));
+    names
+}
+
+/// One record, changed in every way.
+fn try_base(trials: &mut Trials, random: &mut Random) {
+    let base = Base::make(random);
+    try_fit(trials, random, &base);
+    try_unfit(trials, random, &base);
+    try_no_record(trials, random, &base);
+    (0..RANDOM).for_each(|_| try_random_record(trials, random, &base));
+}
+
+/// The record as it is, and at each edge of fitness.
+fn try_fit(trials: &mut Trials, random: &mut Random, base: &Base) {
+    try_record(trials, random, "a state of a run", base, &words_of(&base.machine), true);
+    for edge in edges() {
+        let mut changed = base.clone();
+        (edge.put)(&mut changed.machine, random);
+        changed.fit_memory(random);
+        let words = words_of(&changed.machine);
+        try_record(trials, random, edge.name, &changed, &words, true);
+    }
+}
+
+/// The record broken in each single way. Before it is broken it is fit, as a
+/// trial shows, or the way would not be single.
+fn try_unfit(trials: &mut Trials, random: &mut Random, base: &Base) {
+    for way in breaks() {
+        let mut changed = base.clone();
+        (way.prepare)(&mut changed.machine);
+        let prepared = words_of(&changed.machine);
+        try_record(trials, random, "a prepared record", &changed, &prepared, true);
+        (way.spoil)(&mut changed.machine);
+        changed.fit_memory(random);
+        let spoilt = words_of(&changed.machine);
+        try_record(trials, random, way.name, &changed, &spoilt, false);
+    }
+}
+
+/// The record's words, spoilt.
+fn try_no_record(trials: &mut Trials, random: &mut Random, base: &Base) {
+    for way in no_records() {
+        let mut words = words_of(&base.machine).to_vec();
+        (way.spoil)(&mut words, random);
+        try_record(trials, random, way.name, base, &words, false);
+    }
+}
+
+/// The record with words changed at random, in memory that may be too short for
+/// what its size has become; a run of it can be long, and it is seldom called.
+fn try_random_record(trials: &mut Trials, random: &mut Random, base: &Base) {
+    let record = change(random, &words_of(&base.machine));
+    let call = CALLS[random.weighted(&[10, 3, 10])];
+    let mut lent = Lent::of(random, &record, &base.words, &base.labels);
+    lent.output.lend(random.pick(&[0, 100, 65_536]), 0);
+    let answer = number(lent.clone().step(&Library));
+    trials.tally.count(&format!("{}, random words, step answers {answer}", call.name()));
+    trials.try_call("random words", call, &lent, Due::Open);
+}
+
+/// The three calls over a record's words, in memory of some length.
+fn try_record(
+    trials: &mut Trials,
+    random: &mut Random,
+    name: &str,
+    base: &Base,
+    record: &[u64],
+    is_fit: bool,
+) {
+    for call in CALLS {
+        let mut lent = Lent::of(random, record, &base.words, &base.labels);
+        let lending = if random.chance(50) { LENDINGS[0] } else { random.pick(&LENDINGS) };
+        lending.apply(random, &mut lent, base.words.len());
+        let short_output = call == Call::Print && lend_output(trials, random, &mut lent);
+        let due = match (is_fit, lending.is_short() && !base.words.is_empty()) {
+            (false, _) => 7,
+            (true, true) => 6,
+            (true, false) => 8 * u64::from(short_output),
+        };
+        let (tally, call_name) = (&mut trials.tally, call.name());
+        tally.count(&format!("{call_name}, {}", lending.name));
+        tally.count_if(due == 7 && lending.is_short(), &format!("{call_name}, 7 before 6"));
+        tally.count_if(due == 7 && short_output, "print, 7 before 8");
+        tally.count_if(due == 6 && short_output, "print, 6 before 8");
+        let after = trials.try_call(name, call, &lent, Due::Number(due));
+        if due == 0 {
+            go_on(trials, call, after);
+        }
+    }
+}
+
+/// Lends output of some length; whether it is too short. Where the listing is
+/// none, for the record is refused, its length is that of any.
+fn lend_output(trials: &mut Trials, random: &mut Random, lent: &mut Lent) -> bool {
+    let mut listing = vec![0; 65_536];
+    let printed = Other.print(lent.record.get(), lent.words.get(), lent.labels.get(), &mut listing);
+    let length = count(printed).max(18) as usize;
+    let choice = random.index(OUTPUTS.len());
+    let lend = [length, length - 1, 0, length + random.index(50) + 1][choice];
+    lent.output.lend(lend, random.bits() as u8);
+    trials.tally.count(&format!("print, output {}", OUTPUTS[choice]));
+    lend < length
+}
+
+/// The same call again and again, from what the library has left.
+fn go_on(trials: &mut Trials, call: Call, mut lent: Lent) {
+    for _ in 0..FURTHER {
+        lent = trials.try_call("what a call left", call, &lent, Due::Number(0));
+    }
+}

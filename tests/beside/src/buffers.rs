@@ -1,0 +1,100 @@
+//! What a call is lent. Each buffer is longer than what is lent of it, on both
+//! sides, so that a byte touched beyond shows.
+
+use crate::calls::Calls;
+use crate::layout::SPAN;
+use interpreter::generator::random::Random;
+use interpreter::machine::MAX_SIZE;
+use std::ops::Range;
+
+/// So many elements lie around what is lent.
+const MARGIN: usize = 3;
+
+/// A buffer of which a part is lent.
+#[derive(Clone, Debug, PartialEq, Eq)]
+pub struct Buffer<T> {
+    pub all: Vec<T>,
+    pub lent: Range<usize>,
+}
+
+impl<T: Copy> Buffer<T> {
+    /// A buffer that lends all of `inside`, with a margin around it.
+    pub fn around(inside: &[T], margin: T) -> Buffer<T> {
+        let side = vec![margin; MARGIN];
+        let all = [&side, inside, &side].concat();
+        Buffer { all, lent: MARGIN..MARGIN + inside.len() }
+    }
+
+    /// Lends so many elements; further ones are put in behind where it has
+    /// fewer.
+    pub fn lend(&mut self, length: usize, filler: T) {
+        let start = self.lent.start;
+        self.all.resize(self.all.len().max(start + length + MARGIN), filler);
+        self.lent = start..start + length;
+    }
+
+    /// Lends the same number of elements or fewer, from further back.
+    pub fn lend_part(&mut self, part: Range<usize>) {
+        let start = self.lent.start;
+        self.lent = start + part.start..start + part.end;
+    }
+
+    pub fn get(&self) -> &[T] {
+        &self.all[self.lent.clone()]
+    }
+
+    pub fn get_mut(&mut self) -> &mut [T] {
+        &mut self.all[self.lent.clone()]
+    }
+}
+
+/// All that step, run and print are lent, and load besides its text.
+#[derive(Clone, Debug, PartialEq, Eq)]
+pub struct Lent {
+    pub record: Buffer<u64>,
+    pub words: Buffer<u32>,
+    pub labels: Buffer<u8>,
+    pub output: Buffer<u8>,
+}
+
+impl Lent {
+    /// What a program of its own lends: the greatest memory, and output enough.
+    pub fn whole() -> Lent {
+        Lent {
+            record: Buffer::around(&[0; SPAN], 0),
+            words: Buffer::around(&[0; MAX_SIZE as usize], 0),
+            labels: Buffer::around(&[0; MAX_SIZE as usize], 0),
+            output: Buffer::around(&[0; 65_536], 0),
+        }
+    }
+
+    /// The record and just its memory; the margins hold what comes.
+    pub fn of(random: &mut Random, record: &[u64], words: &[u32], labels: &[u8]) -> Lent {
+        Lent {
+            record: Buffer::around(record, u64::from(random.bits())),
+            words: Buffer::around(words, random.bits()),
+            labels: Buffer::around(labels, random.bits() as u8),
+            output: Buffer::around(&[], random.bits() as u8),
+        }
+    }
+
+    pub fn load(&mut self, calls: &dyn Calls, text: &[u8]) -> u64 {
+        let Lent { record, words, labels, .. } = self;
+        calls.load(text, words.get_mut(), labels.get_mut(), record.get_mut())
+    }
+
+    pub fn step(&mut self, calls: &dyn Calls) -> u64 {
+        let Lent { record, words, labels, .. } = self;
+        calls.step(record.get_mut(), words.get_mut(), labels.get_mut())
+    }
+
+    pub fn run(&mut self, calls: &dyn Calls) -> u64 {
+        let Lent { record, words, labels, .. } = self;
+        calls.run(record.get_mut(), words.get_mut(), labels.get_mut())
+    }
+
+    pub fn print(&mut self, calls: &dyn Calls) -> u64 {
+        let Lent { record, words, labels, output } = self;
+        calls.print(record.get(), words.get(), labels.get(), output.get_mut())
+    }
+}

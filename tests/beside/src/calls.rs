@@ -1,0 +1,24 @@
+//! The four calls over plain buffers, for the library and the interpreter alike.
+
+/// The calls of `include/jennydusk.h`. A slice is a pointer and a length there.
+pub trait Calls {
+    fn load(&self, text: &[u8], words: &mut [u32], labels: &mut [u8], record: &mut [u64]) -> u64;
+    fn step(&self, record: &mut [u64], words: &mut [u32], labels: &mut [u8]) -> u64;
+    fn run(&self, record: &mut [u64], words: &mut [u32], labels: &mut [u8]) -> u64;
+    fn print(&self, record: &[u64], words: &[u32], labels: &[u8], output: &mut [u8]) -> u64;
+}
+
+/// "answers: a number, with a line or a length above it"
+pub fn number(answer: u64) -> u64 {
+    answer % 256
+}
+
+/// "answers: a number, with a line or a length above it"
+pub fn count(answer: u64) -> u64 {
+    answer / 256
+}
+
+/// "answers: a number, with a line or a length above it"
+pub fn answer(number: u64, count: u64) -> u64 {
+    number + 256 * count
+}

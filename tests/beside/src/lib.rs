@@ -1,0 +1,25 @@
+//! The library beside the interpreter.
+//!
+//! The library is called through its C functions, the interpreter through the
+//! same buffers. Three programs compare them: `listings` on generated images,
+//! `calls` on records and memory that no load gives, `pairs` on pairs of
+//! machines that differ in their secrets.
+
+#![deny(unsafe_code)]
+
+pub mod bases;
+pub mod breaks;
+pub mod buffers;
+pub mod calls;
+pub mod edges;
+pub mod layout;
+pub mod library;
+pub mod loads;
+pub mod no_records;
+pub mod other;
+pub mod pairs;
+pub mod parting;
+pub mod random_records;
+pub mod tally;
+pub mod trials;
+pub mod verdict;

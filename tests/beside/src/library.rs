@@ -1,0 +1,38 @@
+//! The library's four C functions, as `include/jennydusk.h` declares them. This
+//! is the only module with unsafe code, and the calls are all of it.
+
+#![allow(unsafe_code)]
+
+use crate::calls::Calls;
+
+#[rustfmt::skip]
+#[link(name = "jennydusk", kind = "static")]
+unsafe extern "C" {
+    fn jennydusk_load(text: *const u8, text_length: usize, words: *mut u32, words_length: usize, labels: *mut u8, labels_length: usize, record: *mut u64, record_length: usize) -> u64;
+    fn jennydusk_step(record: *mut u64, record_length: usize, words: *mut u32, words_length: usize, labels: *mut u8, labels_length: usize) -> u64;
+    fn jennydusk_run(record: *mut u64, record_length: usize, words: *mut u32, words_length: usize, labels: *mut u8, labels_length: usize) -> u64;
+    fn jennydusk_print(record: *const u64, record_length: usize, words: *const u32, words_length: usize, labels: *const u8, labels_length: usize, output: *mut u8, output_length: usize) -> u64;
+}
+
+/// The compiled library. In each call every pointer is that of a slice of the
+/// length beside it, and slices that may be changed overlap no other.
+pub struct Library;
+
+#[rustfmt::skip]
+impl Calls for Library {
+    fn load(&self, text: &[u8], words: &mut [u32], labels: &mut [u8], record: &mut [u64]) -> u64 {
+        unsafe { jennydusk_load(text.as_ptr(), text.len(), words.as_mut_ptr(), words.len(), labels.as_mut_ptr(), labels.len(), record.as_mut_ptr(), record.len()) }
+    }
+
+    fn step(&self, record: &mut [u64], words: &mut [u32], labels: &mut [u8]) -> u64 {
+        unsafe { jennydusk_step(record.as_mut_ptr(), record.len(), words.as_mut_ptr(), words.len(), labels.as_mut_ptr(), labels.len()) }
+    }
+
+    fn run(&self, record: &mut [u64], words: &mut [u32], labels: &mut [u8]) -> u64 {
+        unsafe { jennydusk_run(record.as_mut_ptr(), record.len(), words.as_mut_ptr(), words.len(), labels.as_mut_ptr(), labels.len()) }
+    }
+
+    fn print(&self, record: &[u64], words: &[u32], labels: &[u8], output: &mut [u8]) -> u64 {
+        unsafe { jennydusk_print(record.as_ptr(), record.len(), words.as_ptr(), words.len(), labels.as_ptr(), labels.len(), output.as_mut_ptr(), output.len()) }
+    }
+}
