@@ -2,7 +2,7 @@
 //! sides, so that a byte touched beyond shows.
 
 use crate::calls::Calls;
-use crate::layout::SPAN;
+use crate::layout::{word_name, SPAN};
 use interpreter::generator::random::Random;
 use interpreter::machine::MAX_SIZE;
 use std::ops::Range;
@@ -48,6 +48,16 @@ impl<T: Copy> Buffer<T> {
     }
 }
 
+impl<T: Copy + PartialEq + Into<u64>> Buffer<T> {
+    /// The first place at which two buffers differ, counted from where the lent
+    /// part begins, and what they hold there.
+    fn differs(&self, other: &Buffer<T>) -> Option<(i64, u64, u64)> {
+        let place = self.all.iter().zip(&other.all).position(|(a, b)| a != b)?;
+        let from_lent = place as i64 - self.lent.start as i64;
+        Some((from_lent, self.all[place].into(), other.all[place].into()))
+    }
+}
+
 /// All that step, run and print are lent, and load besides its text.
 #[derive(Clone, Debug, PartialEq, Eq)]
 pub struct Lent {
@@ -76,6 +86,24 @@ impl Lent {
             labels: Buffer::around(labels, random.bits() as u8),
             output: Buffer::around(&[], random.bits() as u8),
         }
+    }
+
+    /// The first place at which something else stands, told in words.
+    pub fn difference(&self, other: &Lent) -> Option<String> {
+        let buffers = [
+            ("record", self.record.differs(&other.record)),
+            ("words", self.words.differs(&other.words)),
+            ("labels", self.labels.differs(&other.labels)),
+            ("output", self.output.differs(&other.output)),
+        ];
+        let (buffer, place, one, two) = buffers
+            .into_iter()
+            .find_map(|(buffer, differs)| differs.map(|(place, a, b)| (buffer, place, a, b)))?;
+        let name = match usize::try_from(place) {
+            Ok(word) if buffer == "record" => format!(" ({})", word_name(word)),
+            _ => String::new(),
+        };
+        Some(format!("{buffer}, place {place}{name}: {one} and {two}"))
     }
 
     pub fn load(&mut self, calls: &dyn Calls, text: &[u8]) -> u64 {

@@ -173,6 +173,7 @@ pub fn word_name(word: usize) -> String {
         at::END => "end".to_string(),
         at::WHY => "why".to_string(),
         44..=59 => format!("value of register {}", word - 44),
-        _ => format!("label of register {}", word.wrapping_sub(60)),
+        60..=75 => format!("label of register {}", word - 60),
+        _ => "behind the record".to_string(),
     }
 }

@@ -3,7 +3,7 @@
 
 use crate::buffers::Lent;
 use crate::calls::Calls;
-use crate::layout::{at, read, word_name};
+use crate::layout::{at, read};
 use crate::library::Library;
 use crate::other::Other;
 
@@ -23,26 +23,10 @@ impl Both {
                 answers.0, answers.1
             ));
         }
-        match self.difference() {
-            Some(what) => Err(what),
+        match self.ours.difference(&self.theirs) {
+            Some(what) => Err(format!("library and interpreter leave another {what}")),
             None => Ok(answers.0),
         }
-    }
-
-    /// The first place at which the two have left something else.
-    fn difference(&self) -> Option<String> {
-        let (a, b) = (&self.ours, &self.theirs);
-        let record = place(a.record.get(), b.record.get()).map(|(k, x, y)| (word_name(k), x, y));
-        let words =
-            || place(a.words.get(), b.words.get()).map(|(k, x, y)| (format!("word {k}"), x, y));
-        let labels = || {
-            place(a.labels.get(), b.labels.get())
-                .map(|(k, x, y)| (format!("label of word {k}"), x, y))
-        };
-        let output =
-            || place(a.output.get(), b.output.get()).map(|(k, x, y)| (format!("byte {k}"), x, y));
-        let (name, x, y) = record.or_else(words).or_else(labels).or_else(output)?;
-        Some(format!("{name}: the library leaves {x}, the interpreter {y}"))
     }
 
     fn is_running(&self) -> bool {
@@ -59,11 +43,6 @@ impl Both {
         let (op, shape) = (word >> 24, (machine.first, machine.second));
         format!("clock {clock}, pc {pc}, word {word} (op {op}), calls {shape:?}")
     }
-}
-
-fn place<T: Copy + PartialEq + Into<u64>>(ours: &[T], theirs: &[T]) -> Option<(usize, u64, u64)> {
-    let k = ours.iter().zip(theirs).position(|(a, b)| a != b)?;
-    Some((k, ours[k].into(), theirs[k].into()))
 }
 
 /// The first call at which the two part, told in words.

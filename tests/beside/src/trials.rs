@@ -170,31 +170,11 @@ impl Trials {
                 println!(
                     "{name}: {due:?} is due, the library and the interpreter answer {answers:?}"
                 );
-                show_difference("before and the library after", before, &ours);
-                show_difference("library and interpreter after", &ours, &theirs);
+                println!("before and the library after: {:?}", before.difference(&ours));
+                println!("library and interpreter after: {:?}", ours.difference(&theirs));
                 println!("record before: {:?}", before.record.get());
             }
         }
         ours
     }
-}
-
-/// Tells which buffers differ and where first.
-fn show_difference(what: &str, one: &Lent, other: &Lent) {
-    let places = [
-        ("record", first_difference(&one.record.all, &other.record.all)),
-        ("words", first_difference(&one.words.all, &other.words.all)),
-        ("labels", first_difference(&one.labels.all, &other.labels.all)),
-        ("output", first_difference(&one.output.all, &other.output.all)),
-    ];
-    for (buffer, place) in places {
-        if let Some(place) = place {
-            println!("{what}: {buffer} differ, {place}");
-        }
-    }
-}
-
-fn first_difference<T: PartialEq + std::fmt::Debug>(one: &[T], other: &[T]) -> Option<String> {
-    let place = one.iter().zip(other).position(|(a, b)| a != b)?;
-    Some(format!("first at {place}: {:?} and {:?}", one[place], other[place]))
 }
