@@ -14,7 +14,7 @@ ghost use mathlib.Core.Bool.{cond, _&&_};
 ghost use lib.Dec.{ltb};
 ghost use lib.ListN.{length, getD, set};
 ghost use Rattle.labels.specs.Label.{flows, join};
-ghost use Rattle.model.specs.Word.{compute, add, subtract, less as lessThan, multiply};
+ghost use Rattle.model.specs.Word.{nField, compute, add, subtract, less as lessThan, multiply};
 ghost use Rattle.model.specs.Ops.{multiplyTicks};
 ghost use Rattle.machine.specs.Common.{going, stopping, Gone, Assigned, Loaded, Stored, Common};
 ghost use Rattle.machine.specs.Sprint.{Sprinted};
@@ -216,6 +216,16 @@ fn go(context: Context, ok: bool, target: u32, pc: u32, clock: u32) -> Turn
     stopping(Stop::Late, pc, clock)
 }
 
+// Ops 11 and 12: on at n if the branch is taken, else at the next word.
+fn branch(context: Context, w: u32, la: u8, lb: u8, taken: bool, pc: u32, clock: u32) -> Turn
+    requires { ⌜ (pc < 2048) × (clock ≤ 16777216) ⌝ }
+    ensures { λ r. ⌜ Gone (flows (join la lb) (context .p)) (cond taken (nField w) (pc + 1)) (context .up) pc clock (context .deadline) r ⌝ }
+{
+    let ok = two_flow(la, lb, context.p);
+    let target = pick(taken, n_of(w), pc);
+    go(context, ok, target, pc, clock)
+}
+
 // Op 9: register a gets word x, where that is inside memory and the check passes.
 fn load(
     values: &mut [u32; 16],
@@ -293,17 +303,15 @@ fn common(
     let a = a_of(w);
     let b = b_of(w);
     let c = c_of(w);
-    let n = n_of(w);
     let x = values[b];
     let y = values[c];
-    let z = values[a];
     let la = labels[a];
     let lb = labels[b];
     let lc = labels[c];
     let p = context.p;
     let t = context.t;
     match op_of(w) {
-        1 => assign(values, context, a, one_flows(p, la), n, 1, pc, clock),
+        1 => assign(values, context, a, one_flows(p, la), n_of(w), 1, pc, clock),
         2 => combine(values, context, a, la, lb, lc, plus(x, y), 1, pc, clock),
         3 => combine(values, context, a, la, lb, lc, minus(x, y), 1, pc, clock),
         4 => combine(values, context, a, la, lb, lc, x & y, 1, pc, clock),
@@ -316,9 +324,9 @@ fn common(
             combine(values, context, a, la, lb, lc, v, ticks, pc, clock)
         }
         9 => load(values, words, marks, context, a, x, la, lb, pc, clock),
-        10 => store(words, marks, context, x, z, la, lb, pc, clock),
-        11 => go(context, two_flow(la, lb, p), pick(z == x, n, pc), pc, clock),
-        12 => go(context, two_flow(la, lb, p), pick(z < x, n, pc), pc, clock),
+        10 => store(words, marks, context, x, values[a], la, lb, pc, clock),
+        11 => branch(context, w, la, lb, values[a] == x, pc, clock),
+        12 => branch(context, w, la, lb, values[a] < x, pc, clock),
         13 => go(context, one_flows(lb, p), x, pc, clock),
         14 => assign(values, context, a, two_flow(p, t, la), clock, 1, pc, clock),
         _ => stopping(Stop::Rest(w), pc, clock),
