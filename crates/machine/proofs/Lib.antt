@@ -1,10 +1,3 @@
--- Laws that the proofs of the functions cite: numbers, a turn of the hot loop, the loop, what is decided where it stops, a
--- verdict carried out, the steps in turn, and the whole record.
-pub mod Numbers
-pub mod Turns
-pub mod Loop
-pub mod Verdicts
-pub mod Applied
-pub mod Driving
+-- Laws about the whole record.
 pub mod Whole
 pub mod Faithful

@@ -18,7 +18,7 @@ use Rattle.model.specs.Step.{step, steps, run}
 use Rattle.model.specs.Answer.{answer}
 use Rattle.machine.specs.declared.Machine.{Machine}
 use Rattle.machine.specs.declared.Outcome.the-variants.{Done, IllFormed, ShortMemory}
-use Rattle.machine.specs.Drive.{stateFrom, Fit, Driven}
+use Rattle.engine.specs.Drive.{stateFrom, Fit, Driven}
 use Rattle.machine.specs.Answered.{recordOf, answered, lent, stepped, Carried, overGate}
 
 -- ---- the two places for open calls, by the first

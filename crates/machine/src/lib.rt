@@ -10,10 +10,8 @@ ghost use mathlib.Core.Path.{_≡_};
 ghost use Rattle.model.specs.WellFormed.{wellFormed};
 ghost use Rattle.machine.specs.Answered.{recordOf};
 
-mod calls;
 mod steps;
 mod wellformed;
-mod word;
 
 // The machine record.
 pub struct Machine {

@@ -1,10 +1,9 @@
 // The public calls, one step and the run. A record that is not well-formed, or memory that is lent too short, is refused;
-// then the record comes back and memory is left. The functions below that ask something of their caller are seen here alone.
+// then the record comes back and memory is left.
 use crate::Answer;
 use crate::Machine;
 use crate::Outcome;
-use crate::word::index;
-use drive::drive;
+use engine::steps::advance;
 ghost use Prim.Native.Nat.{_+_, _-_, _≤_};
 ghost use mathlib.Core.Path.{_≡_};
 ghost use mathlib.Core.Bool.{true, cond};
@@ -13,10 +12,12 @@ ghost use Rattle.model.specs.WellFormed.{wellFormed};
 ghost use Rattle.model.specs.Answer.{answer, stepAnswer, runAnswer};
 ghost use Rattle.machine.specs.Answered.{recordOf, answered, lent, stepped, Carried};
 
-mod apply;
-mod common;
-mod drive;
-mod rest;
+// A size as a length.
+fn length_of(size: u32) -> usize
+    ensures { λ r. ⌜ r ≡ size ⌝ }
+{
+    size as usize
+}
 
 // How many steps: one, or as many as a run can take.
 fn step_count(once: bool, limit: u32, clock: u32) -> u32
@@ -37,7 +38,7 @@ impl Machine {
         let mut values = self.values;
         let mut marks = self.labels;
         let count = step_count(once, fixed.limit, start.clock);
-        let control = drive(fixed, start, count, &mut values, &mut marks, words, labels);
+        let control = advance(fixed, start, count, &mut values, &mut marks, words, labels);
         Machine {
             fixed,
             control,
@@ -60,7 +61,7 @@ impl Machine {
     {
         if self.is_well_formed() {
             let fixed = self.fixed;
-            let size = index(fixed.size);
+            let size = length_of(fixed.size);
             if words.len() < size {
                 return self.refused(Outcome::ShortMemory);
             }

@@ -1,5 +1,4 @@
 // Whether a record is well-formed.
-use crate::calls::is_empty;
 use labels::Label;
 use model::Call;
 use model::Pair;
@@ -8,6 +7,7 @@ ghost use mathlib.Core.Path.{_≡_};
 ghost use mathlib.Core.Bool.{_&&_, cond};
 ghost use lib.Dec.{leb, eqb};
 ghost use Rattle.model.specs.declared.Control.{Control};
+ghost use Rattle.model.specs.Record.{isEmpty};
 ghost use Rattle.model.specs.WellFormed.{upcallWellFormed, callsWellFormed};
 ghost use Rattle.machine.specs.Answered.{controlAt, overGate};
 
@@ -29,6 +29,17 @@ pub(crate) fn end_in_range(end: u8, why: u8) -> bool
         return why == 0;
     }
     false
+}
+
+// Whether a place holds no call.
+fn is_absent(call: Call) -> bool
+    ensures { λ r. ⌜ r ≡ isEmpty call ⌝ }
+{
+    match call {
+        Call::Empty => true,
+        Call::Gate(_, _) => false,
+        Call::Upcall(_, _, _) => false,
+    }
 }
 
 // What is asked of an upcall's kept pair and end tick.
@@ -60,7 +71,7 @@ pub(crate) fn calls_well_formed(p: u8, t: u8, clock: u32, first: Call, second: C
     ensures { λ r. ⌜ ((c : Control) → r ≡ callsWellFormed (controlAt c p t clock) first second) ⌝ }
 {
     match first {
-        Call::Empty => is_empty(second),
+        Call::Empty => is_absent(second),
         Call::Gate(_, q) => over_gate(
             Label(q.pc).is_valid_pair(Label(q.timing)),
             p,
@@ -68,6 +79,6 @@ pub(crate) fn calls_well_formed(p: u8, t: u8, clock: u32, first: Call, second: C
             clock,
             second,
         ),
-        Call::Upcall(_, q, e) => is_empty(second) & upcall_well_formed(p, t, clock, q, e),
+        Call::Upcall(_, q, e) => is_absent(second) & upcall_well_formed(p, t, clock, q, e),
     }
 }

@@ -11,23 +11,23 @@ use Rattle.machine.proofs.Machine.answer.Tie as tie
 is-well-formed-requires : tie.Need-is-well-formed-requires
 is-well-formed-requires c κs = search needs
 
-index-requires : tie.Need-index-requires
-index-requires c κs = search needs
+length-of-requires : tie.Need-length-of-requires
+length-of-requires c κs = search needs
 
 refused-requires : tie.Need-refused-requires
 refused-requires c κs = search needs
 
 returns : tie.Need-returns
-returns c = rw (c .refused .ensures) (answered-short-words (c .before .before .before .before .before .before .before .before .args .once) (c .before .before .before .before .before .before .before .before .args .self) (now (c .before .before .before .before .before .before .before .before .args .words)) (now (c .before .before .before .before .before .before .before .before .args .labels)) (sym (c .before .before .before .before .before .is-well-formed .ensures) ∙ c .before .before .before .before .if1 .taken) (omega (arith, c .before .before .index .ensures, c .before .if2 .taken)))
+returns c = rw (c .refused .ensures) (answered-short-words (c .before .before .before .before .before .before .before .before .args .once) (c .before .before .before .before .before .before .before .before .args .self) (now (c .before .before .before .before .before .before .before .before .args .words)) (now (c .before .before .before .before .before .before .before .before .args .labels)) (sym (c .before .before .before .before .before .is-well-formed .ensures) ∙ c .before .before .before .before .if1 .taken) (omega (arith, c .before .before .length-of .ensures, c .before .if2 .taken)))
 
 refused-requires-2 : tie.Need-refused-requires-2
 refused-requires-2 c κs = search needs
 
 returns-2 : tie.Need-returns-2
-returns-2 c = rw (c .refused2 .ensures) (answered-short-labels (c .before .before .before .before .before .before .before .before .before .args .once) (c .before .before .before .before .before .before .before .before .before .args .self) (now (c .before .before .before .before .before .before .before .before .before .args .words)) (now (c .before .before .before .before .before .before .before .before .before .args .labels)) (sym (c .before .before .before .before .before .before .is-well-formed .ensures) ∙ c .before .before .before .before .before .if1 .taken) (omega (arith, c .before .before .before .index .ensures, c .before .before .if2 .left)) (omega (arith, c .before .before .before .index .ensures, c .before .if3 .taken)))
+returns-2 c = rw (c .refused2 .ensures) (answered-short-labels (c .before .before .before .before .before .before .before .before .before .args .once) (c .before .before .before .before .before .before .before .before .before .args .self) (now (c .before .before .before .before .before .before .before .before .before .args .words)) (now (c .before .before .before .before .before .before .before .before .before .args .labels)) (sym (c .before .before .before .before .before .before .is-well-formed .ensures) ∙ c .before .before .before .before .before .if1 .taken) (omega (arith, c .before .before .before .length-of .ensures, c .before .before .if2 .left)) (omega (arith, c .before .before .before .length-of .ensures, c .before .if3 .taken)))
 
 carried-requires : tie.Need-carried-requires
-carried-requires c κs = ((sym (c .before .before .before .before .before .before .before .is-well-formed .ensures) ∙ c .before .before .before .before .before .before .if1 .taken), omega (arith, c .before .before .before .before .index .ensures, c .before .before .before .if2 .left), omega (arith, c .before .before .before .before .index .ensures, c .before .before .if3 .left))
+carried-requires c κs = ((sym (c .before .before .before .before .before .before .before .is-well-formed .ensures) ∙ c .before .before .before .before .before .before .if1 .taken), omega (arith, c .before .before .before .before .length-of .ensures, c .before .before .before .if2 .left), omega (arith, c .before .before .before .before .length-of .ensures, c .before .before .if3 .left))
 
 same-length : tie.Need-same-length
 same-length c = search needs
@@ -36,7 +36,7 @@ same-length-2 : tie.Need-same-length-2
 same-length-2 c = search needs
 
 returns-3 : tie.Need-returns-3
-returns-3 c = answered-done (c .before .before .before .before .before .before .before .before .before .before .before .before .before .before .before .args .once) (c .before .before .before .before .before .before .before .before .before .before .before .before .before .before .before .args .self) (now (c .before .before .before .before .before .before .before .before .before .before .before .before .before .before .before .args .words)) (now (c .before .before .before .before .before .before .before .before .before .before .before .before .before .before .before .args .labels)) (sym (c .before .before .before .before .before .before .before .before .before .before .before .before .is-well-formed .ensures) ∙ c .before .before .before .before .before .before .before .before .before .before .before .if1 .taken) (omega (arith, c .before .before .before .before .before .before .before .before .before .index .ensures, c .before .before .before .before .before .before .before .before .if2 .left)) (omega (arith, c .before .before .before .before .before .before .before .before .before .index .ensures, c .before .before .before .before .before .before .before .if3 .left)) (c .before .before .before .before .carried .ensures)
+returns-3 c = answered-done (c .before .before .before .before .before .before .before .before .before .before .before .before .before .before .before .args .once) (c .before .before .before .before .before .before .before .before .before .before .before .before .before .before .before .args .self) (now (c .before .before .before .before .before .before .before .before .before .before .before .before .before .before .before .args .words)) (now (c .before .before .before .before .before .before .before .before .before .before .before .before .before .before .before .args .labels)) (sym (c .before .before .before .before .before .before .before .before .before .before .before .before .is-well-formed .ensures) ∙ c .before .before .before .before .before .before .before .before .before .before .before .if1 .taken) (omega (arith, c .before .before .before .before .before .before .before .before .before .length-of .ensures, c .before .before .before .before .before .before .before .before .if2 .left)) (omega (arith, c .before .before .before .before .before .before .before .before .before .length-of .ensures, c .before .before .before .before .before .before .before .if3 .left)) (c .before .before .before .before .carried .ensures)
 
 refused-requires-3 : tie.Need-refused-requires-3
 refused-requires-3 c κs = search needs
@@ -49,7 +49,7 @@ answer-spec =
     tie.close
     (tie.spec
     is-well-formed-requires
-    index-requires
+    length-of-requires
     refused-requires
     returns
     refused-requires-2

@@ -1,7 +1,9 @@
 -- `machine::Machine::carried` meets its contract.
 -- Assumes nothing.
+use mathlib.Core.Path.{_∙_}
 use borrow.Author.Needs.{needs}
 use Rattle.machine.specs.Answered.{recordOf}
+use Rattle.engine.proofs.Driving.{advanced-there}
 use Rattle.machine.proofs.Whole.{clock-within, limit-within, fit-of, carried-of}
 use Rattle.machine.proofs.Machine.carried.Statement.{statement}
 use Rattle.machine.proofs.Machine.carried.Tie as tie
@@ -9,8 +11,8 @@ use Rattle.machine.proofs.Machine.carried.Tie as tie
 step-count-requires : tie.Need-step-count-requires
 step-count-requires c κs = (clock-within (recordOf (c .before .before .before .before .before .before .args .self)) (c .before .before .before .before .before .before .pre .0), limit-within (recordOf (c .before .before .before .before .before .before .args .self)) (c .before .before .before .before .before .before .pre .0))
 
-drive-requires : tie.Need-drive-requires
-drive-requires c κs = fit-of (recordOf (c .before .before .before .before .before .before .before .before .before .before .before .args .self)) (c .before .before .before .before .before .before .before .before .before .before .before .pre .0) (c .before .before .before .before .before .before .before .before .before .before .before .pre .1) (c .before .before .before .before .before .before .before .before .before .before .before .pre .2)
+advance-requires : tie.Need-advance-requires
+advance-requires c κs = search needs
 
 same-length : tie.Need-same-length
 same-length c = search needs
@@ -19,8 +21,8 @@ same-length-2 : tie.Need-same-length-2
 same-length-2 c = search needs
 
 returns : tie.Need-returns
-returns c = carried-of (c .before .before .before .before .before .before .before .step-count .ensures) (c .before .before .drive .ensures)
+returns c = carried-of (c .before .before .before .before .before .before .before .step-count .ensures) (record { is = c .before .before .advance .ensures ∙ advanced-there _ _ _ (fit-of (recordOf (c .before .before .before .before .before .before .before .before .before .before .before .before .before .before .args .self)) (c .before .before .before .before .before .before .before .before .before .before .before .before .before .before .pre .0) (c .before .before .before .before .before .before .before .before .before .before .before .before .before .before .pre .1) (c .before .before .before .before .before .before .before .before .before .before .before .before .before .before .pre .2)) })
 
 pub carried-spec : {M : Type 1} → statement M
 carried-spec =
-    tie.close (tie.spec step-count-requires drive-requires same-length same-length-2 returns)
+    tie.close (tie.spec step-count-requires advance-requires same-length same-length-2 returns)

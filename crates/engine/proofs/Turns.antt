@@ -1,0 +1,278 @@
+-- Laws about a turn of the hot loop: when a step of the model is the change that a common op carries out, and what the
+-- step decides where the op would finish past the deadline.
+-- Assumes nothing.
+use Prim.Native.Nat.{ℕ, zero, suc, _+_, _≤_, _<_}
+use mathlib.Core.Path.{_≡_, refl, sym, ap, _∙_, subst}
+use mathlib.Core.Bool.{Bool, true, false, not, _&&_, _||_, cond, true≢false, false≢true}
+use mathlib.Core.List.{List}
+use mathlib.Core.Logic.{_⊎_, inl, inr}
+use mathlib.Core.Option.{some}
+use native.Mathlib.Omega.{arith}
+use borrow.Author.Tests.{ltb-true, ltb-false, leb-true, leb-false, lt-ltb, le-ltb, eq-eqb, ne-eqb}
+use lib.Dec.{leb, ltb, eqb}
+use lib.ListN.{getD, set}
+use Rattle.labels.specs.Label.{flows, join}
+use Rattle.model.specs.Record.{State, register, word, inUpcall}
+use Rattle.model.specs.Word.{Op, opField, decode}
+use Rattle.model.specs.Ops.{Write, nothing, value, Change, write, goto, does, row, strictRow, table}
+use Rattle.model.specs.Step.{spend, close, carry, fetch, fetched, known, endTick, finish, attempt, inTime, plan, beyondLimit, inLimit, running, decide, written, writeOf, changed, controlAfter, apply, step}
+use Rattle.engine.specs.declared.steps.common.Stop.{Stop}
+use Rattle.engine.specs.declared.steps.common.Stop.the-variants.{Late, Failed}
+use Rattle.engine.specs.declared.steps.common.Turn.{Turn}
+use Rattle.engine.specs.Common.{going, stopping, timed, gone, Assigned, Loaded, Stored, Gone, moving, deadlineOf, Timed, lateOf, Stopped, Turned}
+
+-- ---- truth values
+
+-- Both branches alike: the choice does not matter.
+pub cond-same {ℓ} : {A : Type ℓ} (b : Bool) (x : A) → cond b x x ≡ x
+cond-same true x = refl
+cond-same false x = refl
+
+-- What is kept either way.
+kept {ℓ} : {A : Type ℓ} (b : Bool) {x y : A} → y ≡ x → y ≡ cond b x x
+kept b {x} e = e ∙ sym (cond-same b x)
+
+-- ---- the fetch
+
+-- The op of a fetched word whose op number is known.
+pub fetch-op : {s : State} {up : Bool} {deadline w : ℕ} {op : Op} → Timed s up deadline → fetch s ≡ known w (decode (opField w))
+    → {n : ℕ} → n ≡ opField w → {k : ℕ} → n ≡ k → decode k ≡ some op → fetch s ≡ fetched w op
+fetch-op {w = w} h f e e′ d = f ∙ ap (λ (m : ℕ). known w (decode m)) (sym e ∙ e′) ∙ ap (known w) d
+
+-- ---- the deadline
+
+-- The deadline is at most the limit.
+pub due-limit : (up : Bool) (e limit : ℕ) → deadlineOf up e limit ≤ limit
+due-limit false e limit = omega arith
+due-limit true e limit = go (ltb e limit) refl
+  where
+    go : (b : Bool) → ltb e limit ≡ b → cond b e limit ≤ limit
+    go true h = omega (arith, ltb-true e limit h)
+    go false h = omega arith
+
+-- In an upcall the deadline is at most the end tick.
+pub due-tick : (e limit : ℕ) → deadlineOf true e limit ≤ e
+due-tick e limit = go (ltb e limit) refl
+  where
+    go : (b : Bool) → ltb e limit ≡ b → cond b e limit ≤ e
+    go true h = omega arith
+    go false h = omega (arith, ltb-false e limit h)
+
+module _ {s : State} {up : Bool} {deadline : ℕ} (h : Timed s up deadline) where
+  -- A running state decides by its plan.
+  pub decides : decide s ≡ inLimit s (plan s (fetch s))
+  unfolding decide running
+  decides = rw (eq-eqb (s .control .end) 0 (h .running))
+
+  spend-over : inLimit s spend ≡ spend
+  unfolding inLimit beyondLimit finish
+  spend-over = cond-same (ltb (s .fixed .limit) (s .fixed .limit) || eqb (s .control .clock) (s .fixed .limit)) spend
+
+  close-over : s .fixed .limit ≤ endTick s → inLimit s (close 2) ≡ spend
+  unfolding inLimit beyondLimit finish
+  close-over q = rw (lt-ltb (s .fixed .limit) (endTick s + 1) (omega arith))
+
+  module _ (k : ℕ) (change : Change) where
+    -- An op that finishes by the deadline is in time for an upcall and for the limit.
+    in-time : s .control .clock + k ≤ deadline → inTime s (carry k change) ≡ carry k change
+    in-time d = go up (h .upcall) (h .due)
+      where
+        go : (b : Bool) → inUpcall (s .control) ≡ b → deadline ≡ deadlineOf b (endTick s) (s .fixed .limit)
+            → inTime s (carry k change) ≡ carry k change
+        go false e f = rw e
+        go true e f =
+            rw (e, le-ltb (endTick s) (s .control .clock + k) (omega (arith, due-tick (endTick s) (s .fixed .limit), f)))
+
+    in-limit : 0 < k → s .control .clock + k ≤ deadline → inLimit s (carry k change) ≡ carry k change
+    unfolding inLimit beyondLimit finish
+    in-limit p d =
+        rw (
+          le-ltb (s .fixed .limit) (s .control .clock + k) (omega (arith, due-limit up (endTick s) (s .fixed .limit), h .due)),
+          ne-eqb (s .control .clock) (s .fixed .limit) (omega (arith, due-limit up (endTick s) (s .fixed .limit), h .due)),
+        )
+
+    over-limit : s .fixed .limit < s .control .clock + k → inLimit s (carry k change) ≡ spend
+    unfolding inLimit beyondLimit finish
+    over-limit q = rw (lt-ltb (s .fixed .limit) (s .control .clock + k) q)
+
+    -- An op that finishes past the deadline closes the upcall, or spends the clock.
+    past : deadline < s .control .clock + k → inLimit s (inTime s (carry k change)) ≡ inLimit s (lateOf s)
+    past d = go up (h .upcall) (h .due)
+      where
+        tick : (b : Bool) → ltb (endTick s) (s .fixed .limit) ≡ b → inUpcall (s .control) ≡ true
+            → deadline ≡ cond b (endTick s) (s .fixed .limit) → inLimit s (inTime s (carry k change)) ≡ inLimit s (lateOf s)
+        tick true q e f = rw (e, lt-ltb (endTick s) (s .control .clock + k) (omega arith))
+        tick false q e f = inner (ltb (endTick s) (s .control .clock + k)) refl
+          where
+            inner : (b : Bool) → ltb (endTick s) (s .control .clock + k) ≡ b
+                → inLimit s (inTime s (carry k change)) ≡ inLimit s (lateOf s)
+            inner true g = rw (e, g)
+            inner false g = rw (e, g, over-limit (omega arith), close-over (ltb-false (endTick s) (s .fixed .limit) q))
+
+        go : (b : Bool) → inUpcall (s .control) ≡ b → deadline ≡ deadlineOf b (endTick s) (s .fixed .limit)
+            → inLimit s (inTime s (carry k change)) ≡ inLimit s (lateOf s)
+        go false e f = rw (e, over-limit (omega arith), spend-over)
+        go true e f = tick (ltb (endTick s) (s .fixed .limit)) refl e f
+
+    -- A turn with an op that has this change in these ticks.
+    module _ {w : ℕ} {op : Op} (f : fetch s ≡ fetched w op) (a : attempt s (table s w op) ≡ carry k change) where
+      pub carried : 0 < k → s .control .clock + k ≤ deadline → step s ≡ apply s (carry k change)
+      unfolding step
+      carried p d = rw (decides, f, a, in-time d, in-limit p d)
+
+      pub late : deadline < s .control .clock + k → decide s ≡ inLimit s (lateOf s)
+      late d = rw (decides, f, a) (past d)
+
+      pub turn : (pc′ : ℕ) (values′ words′ : List ℕ) → 0 < k
+          → apply s (carry k change) ≡ moving s pc′ (s .control .clock + k) values′ words′
+          → {r : Turn} {values words : List ℕ} → r ≡ timed k pc′ (s .control .pc) (s .control .clock) deadline
+          → values ≡ cond (leb (s .control .clock + k) deadline) values′ (s .registers .values)
+          → words ≡ cond (leb (s .control .clock + k) deadline) words′ (s .memory .values) → Turned s deadline r values words
+      turn pc′ values′ words′ p e er ev ew = rw (er, ev, ew) (go (leb (s .control .clock + k) deadline) refl)
+        where
+          go : (b : Bool) → leb (s .control .clock + k) deadline ≡ b
+              → Turned s deadline
+              (cond b (going pc′ (s .control .clock + k)) (stopping Late (s .control .pc) (s .control .clock)))
+              (cond b values′ (s .registers .values))
+              (cond b words′ (s .memory .values))
+          go true q =
+              record {
+                goes = λ x. carried p (leb-true _ _ q) ∙ e;
+                stops = λ x. absurd (true≢false x);
+                clock = λ m x y. omega (arith, leb-true (s .control .clock + k) deadline q);
+              }
+          go false q =
+              record {
+                goes = λ x. absurd (false≢true x);
+                stops = λ x. (late (leb-false _ _ q), refl, refl);
+                clock = λ m x y. omega arith;
+              }
+
+-- ---- the changes of the common ops
+
+-- An op that only writes carries its write out, or where its check fails nothing.
+pub attempt-write : (s : State) (ok : Bool) (x : Write) (k : ℕ)
+    → attempt s (row ok (does (write x)) k) ≡ carry k (write (cond ok x nothing))
+unfolding attempt
+attempt-write s true x k = refl
+attempt-write s false x k = refl
+
+apply-register : (s : State) (ok : Bool) (a v k : ℕ)
+    → apply s (carry k (write (cond ok (value (register a) v) nothing)))
+    ≡ moving s (s .control .pc + 1) (s .control .clock + k) (cond ok (set (s .registers .values) a v) (s .registers .values)) (s .memory .values)
+unfolding apply written writeOf controlAfter changed
+apply-register s true a v k = refl
+apply-register s false a v k = refl
+
+apply-word : (s : State) (ok : Bool) (a v k : ℕ)
+    → apply s (carry k (write (cond ok (value (word a) v) nothing)))
+    ≡ moving s (s .control .pc + 1) (s .control .clock + k) (s .registers .values) (cond ok (set (s .memory .values) a v) (s .memory .values))
+unfolding apply written writeOf controlAfter changed
+apply-word s true a v k = refl
+apply-word s false a v k = refl
+
+apply-goto : (s : State) (n k : ℕ)
+    → apply s (carry k (goto n)) ≡ moving s n (s .control .clock + k) (s .registers .values) (s .memory .values)
+unfolding apply written writeOf controlAfter changed
+apply-goto s n k = refl
+
+apply-nothing : (s : State) (k : ℕ)
+    → apply s (carry k (write nothing)) ≡ moving s (s .control .pc + 1) (s .control .clock + k) (s .registers .values) (s .memory .values)
+unfolding apply written writeOf controlAfter changed
+apply-nothing s k = refl
+
+module _ {s : State} {up : Bool} {deadline w : ℕ} {op : Op} (h : Timed s up deadline) (f : fetch s ≡ fetched w op) where
+  -- An op that sets register a.
+  pub sets-turn : {a : ℕ} {ok : Bool} {v k : ℕ} {r : Turn} {values words : List ℕ}
+      → Assigned (s .registers .values) a ok v k (s .control .pc) (s .control .clock) deadline r values → 0 < k
+      → table s w op ≡ row ok (does (write (value (register a) v))) k → words ≡ s .memory .values → Turned s deadline r values words
+  sets-turn {a} {ok} {v} {k} e p t ew =
+      turn h k (write (cond ok (value (register a) v) nothing)) f (rw t (attempt-write s ok (value (register a) v) k))
+      (s .control .pc + 1) _ _ p (apply-register s ok a v k) (e .turn) (e .values) (kept (leb (s .control .clock + k) deadline) ew)
+
+  -- Op 9.
+  pub loads-turn : {a x p lb la size : ℕ} {r : Turn} {values words : List ℕ}
+      → Loaded (s .registers .values) (s .memory .values) (s .memory .labels) a x p lb la size (s .control .pc) (s .control .clock) deadline r values
+      → table s w op
+      ≡ row (ltb x size && flows (join (join p lb) (getD (s .memory .labels) x 0)) la) (does (write (value (register a) (getD (s .memory .values) x 0)))) 3
+      → words ≡ s .memory .values → Turned s deadline r values words
+  loads-turn e t ew = sets-turn (record { turn = e .turn; values = e .values }) (omega arith) t ew
+
+  -- Op 10.
+  pub stores-turn : {x v p lb la size : ℕ} {r : Turn} {values words : List ℕ}
+      → Stored (s .memory .values) (s .memory .labels) x v p lb la size (s .control .pc) (s .control .clock) deadline r words
+      → table s w op
+      ≡ row (ltb x size && flows (join (join p lb) la) (getD (s .memory .labels) x 0)) (does (write (value (word x) v))) 3
+      → values ≡ s .registers .values → Turned s deadline r values words
+  stores-turn {x} {v} {p} {lb} {la} {size} e t ev =
+      turn h 3 (write (cond ok (value (word x) v) nothing)) f (rw t (attempt-write s ok (value (word x) v) 3))
+      (s .control .pc + 1) _ _ (omega arith) (apply-word s ok x v 3) (e .turn) (kept (leb (s .control .clock + 3) deadline) ev) (e .words)
+    where
+      ok : Bool
+      ok = ltb x size && flows (join (join p lb) la) (getD (s .memory .labels) x 0)
+
+  go-taken : {n : ℕ} → table s w op ≡ strictRow true (does (goto n)) 1 → attempt s (table s w op) ≡ carry 1 (goto n)
+  unfolding attempt
+  go-taken t = rw t
+
+  go-by : {n : ℕ} → table s w op ≡ strictRow false (does (goto n)) 1 → inUpcall (s .control) ≡ false
+      → attempt s (table s w op) ≡ carry 1 (write nothing)
+  unfolding attempt
+  go-by t e = rw (t, e)
+
+  go-failed : {n : ℕ} → table s w op ≡ strictRow false (does (goto n)) 1 → inUpcall (s .control) ≡ true → plan s (fetch s) ≡ close 3
+  unfolding attempt
+  go-failed t e = rw (f, t, e)
+
+  -- A branch or jump.
+  pub goes-turn : {ok : Bool} {n : ℕ} {r : Turn} {values words : List ℕ} → Gone ok n up (s .control .pc) (s .control .clock) deadline r
+      → table s w op ≡ strictRow ok (does (goto n)) 1 → values ≡ s .registers .values → words ≡ s .memory .values
+      → Turned s deadline r values words
+  unfolding gone
+  goes-turn {ok} {n} {r} {values} {words} er t ev ew = go ok up t (h .upcall) (er .turn)
+    where
+      go : (b u : Bool) → table s w op ≡ strictRow b (does (goto n)) 1 → inUpcall (s .control) ≡ u
+          → r ≡ cond b (timed 1 n (s .control .pc) (s .control .clock) deadline)
+          (cond u (stopping Failed (s .control .pc) (s .control .clock)) (timed 1 (s .control .pc + 1) (s .control .pc) (s .control .clock) deadline))
+          → Turned s deadline r values words
+      go true u t e er =
+          turn h 1 (goto n) f (go-taken t) n _ _ (omega arith) (apply-goto s n 1) er (kept (leb (s .control .clock + 1) deadline) ev) (kept (leb (s .control .clock + 1) deadline) ew)
+      go false false t e er =
+          turn h 1 (write nothing) f (go-by t e) (s .control .pc + 1) _ _ (omega arith) (apply-nothing s 1) er
+          (kept (leb (s .control .clock + 1) deadline) ev) (kept (leb (s .control .clock + 1) deadline) ew)
+      go false true t e er =
+          rw (er, ev, ew)
+          (record {
+            goes = λ x. absurd (false≢true x);
+            stops = λ x. (go-failed t e, refl, refl);
+            clock = λ m x y. x;
+          })
+
+-- ---- the other ops
+
+-- A number that is none of 1 to 14 is 0 or above 14.
+pub no-common : (n : ℕ) → (n ≡ 1 → ⊥) → (n ≡ 2 → ⊥) → (n ≡ 3 → ⊥) → (n ≡ 4 → ⊥) → (n ≡ 5 → ⊥) → (n ≡ 6 → ⊥) → (n ≡ 7 → ⊥)
+    → (n ≡ 8 → ⊥) → (n ≡ 9 → ⊥) → (n ≡ 10 → ⊥) → (n ≡ 11 → ⊥) → (n ≡ 12 → ⊥) → (n ≡ 13 → ⊥) → (n ≡ 14 → ⊥) → (n ≡ 0) ⊎ (14 < n)
+no-common zero a b c d e f g h i j k l m o = inl refl
+no-common (suc zero) a b c d e f g h i j k l m o = absurd (a refl)
+no-common (suc (suc zero)) a b c d e f g h i j k l m o = absurd (b refl)
+no-common (suc (suc (suc zero))) a b c d e f g h i j k l m o = absurd (c refl)
+no-common (suc (suc (suc (suc zero)))) a b c d e f g h i j k l m o = absurd (d refl)
+no-common (suc (suc (suc (suc (suc zero))))) a b c d e f g h i j k l m o = absurd (e refl)
+no-common (suc (suc (suc (suc (suc (suc zero)))))) a b c d e f g h i j k l m o = absurd (f refl)
+no-common (suc (suc (suc (suc (suc (suc (suc zero))))))) a b c d e f g h i j k l m o = absurd (g refl)
+no-common (suc (suc (suc (suc (suc (suc (suc (suc zero)))))))) a b c d e f g h i j k l m o = absurd (h refl)
+no-common (suc (suc (suc (suc (suc (suc (suc (suc (suc zero))))))))) a b c d e f g h i j k l m o = absurd (i refl)
+no-common (suc (suc (suc (suc (suc (suc (suc (suc (suc (suc zero)))))))))) a b c d e f g h i j k l m o = absurd (j refl)
+no-common (suc (suc (suc (suc (suc (suc (suc (suc (suc (suc (suc zero))))))))))) a b c d e f g h i j k l m o = absurd (k refl)
+no-common (suc (suc (suc (suc (suc (suc (suc (suc (suc (suc (suc (suc zero)))))))))))) a b c d e f g h i j k l m o = absurd (l refl)
+no-common (suc (suc (suc (suc (suc (suc (suc (suc (suc (suc (suc (suc (suc zero))))))))))))) a b c d e f g h i j k l m o = absurd (m refl)
+no-common (suc (suc (suc (suc (suc (suc (suc (suc (suc (suc (suc (suc (suc (suc zero)))))))))))))) a b c d e f g h i j k l m o = absurd (o refl)
+no-common (suc (suc (suc (suc (suc (suc (suc (suc (suc (suc (suc (suc (suc (suc (suc n))))))))))))))) a b c d e f g h i j k l m o = inr (omega arith)
+
+-- A turn that leaves the state.
+pub stays : (s : State) (deadline : ℕ) (stop : Stop) {r : Turn} → r ≡ stopping stop (s .control .pc) (s .control .clock) → Stopped stop s
+    → Turned s deadline r (s .registers .values) (s .memory .values)
+stays s deadline stop q e =
+    subst (λ (r : Turn). Turned s deadline r (s .registers .values) (s .memory .values)) (sym q)
+    (record { goes = λ x. absurd (false≢true x); stops = λ x. (e, refl, refl); clock = λ m x y. x })

@@ -1,0 +1,381 @@
+-- Laws about what is to be done where the hot loop stopped: the limit, and the ops 15 to 22.
+-- Assumes nothing.
+use Prim.Native.Nat.{ℕ, zero, suc, _+_, _≤_, _<_}
+use mathlib.Core.Path.{_≡_, refl, sym, ap, _∙_, subst}
+use mathlib.Core.Bool.{Bool, true, false, _&&_, _||_, cond, false≢true}
+use mathlib.Core.List.{List}
+use mathlib.Core.Logic.{_⊎_, ⊎-elim}
+use mathlib.Core.Option.{Option, none, some}
+use native.Mathlib.Omega.{arith}
+use borrow.Author.Tests.{ltb-true, lt-ltb, le-ltb, eq-eqb, ne-eqb}
+use lib.Dec.{ltb, eqb}
+use Rattle.labels.specs.Label.{flows, validPair}
+use Rattle.model.specs.declared.CallGate.{CallGate}
+use Rattle.model.specs.declared.Call.{Call}
+use Rattle.model.specs.Record.{State, isUpcall, endTickOf, newest, inUpcall}
+use Rattle.model.specs.Word.{Op, endUpcall, halt, opField, decode}
+use Rattle.model.specs.Ops.{Change, write, goto, nothing, does, row, isLabel, table}
+use Rattle.model.specs.Step.{Decision, spend, stall, close, carry, failed, fetched, known, fetch, endTick, finish, fault, attempt, plan, beyondLimit, inLimit, running, decide}
+use Rattle.engine.specs.declared.steps.common.Stop.{Stop}
+use Rattle.engine.specs.declared.steps.common.Stop.the-variants.{Out, Late, Failed, Rest}
+use Rattle.engine.specs.declared.steps.rest.Act.{Act}
+use Rattle.engine.specs.declared.steps.rest.Act.the-variants.{Pass, Halt}
+use Rattle.engine.specs.declared.steps.rest.Verdict.{Verdict}
+use Rattle.engine.specs.declared.steps.rest.Verdict.the-variants.{Spend, Stall, Close, Carry}
+use Rattle.engine.proofs.Turns.{cond-same}
+use Rattle.engine.specs.Common.{lateOf, Uncommon, Stopped}
+use Rattle.engine.specs.Rest.{changeOf, decisionOf, allowed, Acts, Held, Short, Timely, Limited, seen, Other, Ready, Rested, Planned, Decided}
+
+-- ---- truth values
+
+-- What a passed label test says of the value.
+both-left : (a b : Bool) → (a && b) ≡ true → a ≡ true
+both-left true b e = refl
+both-left false b e = absurd (false≢true e)
+
+both-right : (a b : Bool) → (a && b) ≡ true → b ≡ true
+both-right true b e = e
+both-right false b e = absurd (false≢true e)
+
+is-below : (x : ℕ) → isLabel x ≡ true → x < 256
+unfolding isLabel
+is-below x e = ltb-true x 256 e
+
+-- What a passed test of a label says of the value.
+pub label-below : (x : ℕ) (b : Bool) {ok : Bool} → ok ≡ (isLabel x && b) → ok ≡ true → x < 256
+label-below x b e t = is-below x (both-left (isLabel x) b (sym e ∙ t))
+
+-- What a passed test of a pair says of the values.
+pub pair-below : (x y lb lc p : ℕ) {ok : Bool} → ok ≡ allowed x y lb lc p → ok ≡ true → (x < 256) × (y < 256)
+pair-below x y lb lc p e t =
+    (is-below x (both-left (isLabel x) (isLabel y) labels), is-below y (both-right (isLabel x) (isLabel y) labels))
+  where
+    labels : (isLabel x && isLabel y) ≡ true
+    labels = both-left _ (validPair x y) (both-left _ (flows lb p) (both-left _ (flows lc p) (sym e ∙ t)))
+
+-- ---- the limit
+
+module _ (s : State) where
+  -- At the limit the clock is spent.
+  pub spent-at : (d : Decision) → s .control .clock ≡ s .fixed .limit → spend ≡ inLimit s d
+  unfolding inLimit beyondLimit
+  spent-at d e = go (ltb (s .fixed .limit) (finish s d))
+    where
+      go : (b : Bool) → spend ≡ cond (b || eqb (s .control .clock) (s .fixed .limit)) spend d
+      go true = refl
+      go false = rw (eq-eqb (s .control .clock) (s .fixed .limit) e)
+
+  -- Beyond the limit it is spent.
+  pub spent-over : (d : Decision) → s .fixed .limit < finish s d → spend ≡ inLimit s d
+  unfolding inLimit beyondLimit
+  spent-over d h = rw (lt-ltb (s .fixed .limit) (finish s d) h)
+
+  -- Below the limit a decision that finishes by it stands.
+  pub in-limit-kept : (d : Decision) → (s .control .clock ≡ s .fixed .limit → ⊥) → finish s d ≤ s .fixed .limit → d ≡ inLimit s d
+  unfolding inLimit beyondLimit
+  in-limit-kept d n h = rw (le-ltb (s .fixed .limit) (finish s d) h, ne-eqb (s .control .clock) (s .fixed .limit) n)
+
+module _ {d : Verdict} {clock limit e : ℕ} where
+  pub limited-at : clock ≡ limit → Limited d clock limit e Spend
+  limited-at q = record { is = λ s c l t. spent-at s _ (c ∙ q ∙ sym l); admits = λ pc h. tt }
+
+  pub limited-spend : d ≡ Spend → Limited d clock limit e Spend
+  unfolding inLimit beyondLimit
+  limited-spend q = record { is = λ s c l t. rw q (sym (cond-same (ltb (s .fixed .limit) (finish s spend) || eqb (s .control .clock) (s .fixed .limit)) spend)); admits = λ pc h. tt }
+
+  module _ (n : clock ≡ limit → ⊥) where
+    pub limited-stall : {why : ℕ} → clock ≤ limit → d ≡ Stall why → Limited d clock limit e (Stall why)
+    unfolding finish
+    limited-stall {why} h q =
+        record {
+          is = λ s c l t. rw q (in-limit-kept s (stall why) (λ x. n (sym c ∙ x ∙ l)) (omega (arith, c, l)));
+          admits = λ pc x. tt;
+        }
+
+    pub limited-close : {cause : ℕ} → e < limit → d ≡ Close cause → Limited d clock limit e (Close cause)
+    unfolding finish
+    limited-close {cause} h q =
+        record {
+          is = λ s c l t. rw q (in-limit-kept s (close cause) (λ x. n (sym c ∙ x ∙ l)) (omega (arith, l, t)));
+          admits = λ pc x. h;
+        }
+
+    pub limited-carry : {k : ℕ} {act : Act} → clock + k ≤ limit → d ≡ Carry k act → Limited d clock limit e (Carry k act)
+    unfolding finish
+    limited-carry {k} {act} h q =
+        record {
+          is = λ s c l t. rw q (in-limit-kept s (carry k (changeOf act)) (λ x. n (sym c ∙ x ∙ l)) (omega (arith, c, l)));
+          admits = λ pc x. (h, (rw q at x));
+        }
+
+  pub limited-past : {cause : ℕ} → limit ≤ e → d ≡ Close cause → Limited d clock limit e Spend
+  unfolding finish
+  limited-past {cause} h q = record { is = λ s c l t. rw q (spent-over s (close cause) (omega (arith, l, t))); admits = λ pc x. tt }
+
+  pub limited-over : {k : ℕ} {act : Act} → limit < clock + k → d ≡ Carry k act → Limited d clock limit e Spend
+  unfolding finish
+  limited-over {k} {act} h q = record { is = λ s c l t. rw q (spent-over s (carry k (changeOf act)) (omega (arith, c, l))); admits = λ pc x. tt }
+
+-- What is asked of a verdict, of its act.
+pub short-carry : {d : Verdict} {k : ℕ} {act : Act} → d ≡ Carry k act → Short d → k ≤ 10
+short-carry q h = rw q at h
+
+-- ---- the ops 15 to 22
+
+-- A number that is no op's, and none of 15 to 22.
+unknown-op : (n : ℕ) → (n ≡ 0) ⊎ (14 < n) → (n ≡ 15 → ⊥) → (n ≡ 16 → ⊥) → (n ≡ 17 → ⊥) → (n ≡ 18 → ⊥) → (n ≡ 19 → ⊥)
+    → (n ≡ 20 → ⊥) → (n ≡ 21 → ⊥) → (n ≡ 22 → ⊥) → decode n ≡ none
+unfolding decode
+unknown-op zero o a b c d e f g h = refl
+unknown-op (suc zero) o a b c d e f g h = absurd (⊎-elim (λ q. omega arith) (λ q. omega arith) o)
+unknown-op (suc (suc zero)) o a b c d e f g h = absurd (⊎-elim (λ q. omega arith) (λ q. omega arith) o)
+unknown-op (suc (suc (suc zero))) o a b c d e f g h = absurd (⊎-elim (λ q. omega arith) (λ q. omega arith) o)
+unknown-op (suc (suc (suc (suc zero)))) o a b c d e f g h = absurd (⊎-elim (λ q. omega arith) (λ q. omega arith) o)
+unknown-op (suc (suc (suc (suc (suc zero))))) o a b c d e f g h = absurd (⊎-elim (λ q. omega arith) (λ q. omega arith) o)
+unknown-op (suc (suc (suc (suc (suc (suc zero)))))) o a b c d e f g h = absurd (⊎-elim (λ q. omega arith) (λ q. omega arith) o)
+unknown-op (suc (suc (suc (suc (suc (suc (suc zero))))))) o a b c d e f g h = absurd (⊎-elim (λ q. omega arith) (λ q. omega arith) o)
+unknown-op (suc (suc (suc (suc (suc (suc (suc (suc zero)))))))) o a b c d e f g h = absurd (⊎-elim (λ q. omega arith) (λ q. omega arith) o)
+unknown-op (suc (suc (suc (suc (suc (suc (suc (suc (suc zero))))))))) o a b c d e f g h = absurd (⊎-elim (λ q. omega arith) (λ q. omega arith) o)
+unknown-op (suc (suc (suc (suc (suc (suc (suc (suc (suc (suc zero)))))))))) o a b c d e f g h = absurd (⊎-elim (λ q. omega arith) (λ q. omega arith) o)
+unknown-op (suc (suc (suc (suc (suc (suc (suc (suc (suc (suc (suc zero))))))))))) o a b c d e f g h = absurd (⊎-elim (λ q. omega arith) (λ q. omega arith) o)
+unknown-op (suc (suc (suc (suc (suc (suc (suc (suc (suc (suc (suc (suc zero)))))))))))) o a b c d e f g h = absurd (⊎-elim (λ q. omega arith) (λ q. omega arith) o)
+unknown-op (suc (suc (suc (suc (suc (suc (suc (suc (suc (suc (suc (suc (suc zero))))))))))))) o a b c d e f g h = absurd (⊎-elim (λ q. omega arith) (λ q. omega arith) o)
+unknown-op (suc (suc (suc (suc (suc (suc (suc (suc (suc (suc (suc (suc (suc (suc zero)))))))))))))) o a b c d e f g h = absurd (⊎-elim (λ q. omega arith) (λ q. omega arith) o)
+unknown-op (suc (suc (suc (suc (suc (suc (suc (suc (suc (suc (suc (suc (suc (suc (suc zero))))))))))))))) o a b c d e f g h = absurd (a refl)
+unknown-op (suc (suc (suc (suc (suc (suc (suc (suc (suc (suc (suc (suc (suc (suc (suc (suc zero)))))))))))))))) o a b c d e f g h = absurd (b refl)
+unknown-op (suc (suc (suc (suc (suc (suc (suc (suc (suc (suc (suc (suc (suc (suc (suc (suc (suc zero))))))))))))))))) o a b c d e f g h = absurd (c refl)
+unknown-op (suc (suc (suc (suc (suc (suc (suc (suc (suc (suc (suc (suc (suc (suc (suc (suc (suc (suc zero)))))))))))))))))) o a b c d e f g h = absurd (d refl)
+unknown-op (suc (suc (suc (suc (suc (suc (suc (suc (suc (suc (suc (suc (suc (suc (suc (suc (suc (suc (suc zero))))))))))))))))))) o a b c d e f g h = absurd (e refl)
+unknown-op (suc (suc (suc (suc (suc (suc (suc (suc (suc (suc (suc (suc (suc (suc (suc (suc (suc (suc (suc (suc zero)))))))))))))))))))) o a b c d e f g h = absurd (f refl)
+unknown-op (suc (suc (suc (suc (suc (suc (suc (suc (suc (suc (suc (suc (suc (suc (suc (suc (suc (suc (suc (suc (suc zero))))))))))))))))))))) o a b c d e f g h = absurd (g refl)
+unknown-op (suc (suc (suc (suc (suc (suc (suc (suc (suc (suc (suc (suc (suc (suc (suc (suc (suc (suc (suc (suc (suc (suc zero)))))))))))))))))))))) o a b c d e f g h = absurd (h refl)
+unknown-op (suc (suc (suc (suc (suc (suc (suc (suc (suc (suc (suc (suc (suc (suc (suc (suc (suc (suc (suc (suc (suc (suc (suc n))))))))))))))))))))))) o a b c d e f g h = refl
+
+-- ---- what the newest call says of the state
+
+module _ (s : State) (errorpc limit count : ℕ) (gates : List CallGate) (pc p t clock : ℕ) (values labels : List ℕ) {call : Call} (c : newest (s .control) ≡ call) where
+  seen-upcall : {up : Bool} → up ≡ isUpcall call → inUpcall (seen s errorpc limit count gates pc p t clock values labels .control) ≡ up
+  unfolding inUpcall newest
+  seen-upcall u = ap isUpcall c ∙ sym u
+
+  seen-end : {end : ℕ} → end ≡ endTickOf call → endTick (seen s errorpc limit count gates pc p t clock values labels) ≡ end
+  unfolding endTick newest
+  seen-end f = ap endTickOf c ∙ sym f
+
+  pub seen-newest : newest (seen s errorpc limit count gates pc p t clock values labels .control) ≡ call
+  unfolding newest
+  seen-newest = c
+
+attempt-row : (s : State) (check : Bool) (change : Change) (k : ℕ)
+    → attempt s (row check (does change) k) ≡ carry k (cond check change (write nothing))
+unfolding attempt
+attempt-row s true change k = refl
+attempt-row s false change k = refl
+
+-- A row whose act is in time.
+timely-row : (s : State) (w : ℕ) (op : Op) {check : Bool} {change : Change} {act : Act} {end ticks : ℕ} {up : Bool}
+    → inUpcall (s .control) ≡ up → endTick s ≡ end → Acts check change act → table s w op ≡ row check (does change) ticks
+    → cond (up && ltb end (s .control .clock + ticks)) (close 2) (carry ticks (changeOf act)) ≡ plan s (fetched w op)
+timely-row s w op {check} {change} {ticks = ticks} u f a e = rw (e, attempt-row s check change ticks, u, f, a .is)
+
+-- Op 19, in an upcall and outside one.
+end-row : (s : State) (w : ℕ) (up : Bool) → inUpcall (s .control) ≡ up
+    → decisionOf (cond up (Close 1) (Carry 1 Pass)) ≡ plan s (fetched w endUpcall)
+unfolding attempt table
+end-row s w true u = rw u
+end-row s w false u = rw (u, u)
+
+-- Op 22, in an upcall and outside one.
+halt-row : (s : State) (w : ℕ) (up : Bool) → inUpcall (s .control) ≡ up
+    → decisionOf (cond up (Close 3) (Carry 1 Halt)) ≡ plan s (fetched w halt)
+unfolding attempt table
+halt-row s w true u = rw u
+halt-row s w false u = rw (u, u)
+
+-- A failed fetch.
+fault-is : (s : State) (why : ℕ) {up : Bool} → inUpcall (s .control) ≡ up
+    → cond up (close 3) (cond (eqb (s .control .pc) (s .fixed .errorpc)) (stall why) (carry 1 (goto (s .fixed .errorpc)))) ≡ fault s why
+unfolding fault
+fault-is s why u = rw u
+
+-- The plan at a known op.
+plan-op : (s : State) (w : ℕ) {op : Op} {n k : ℕ} → n ≡ opField w → n ≡ k → decode k ≡ some op
+    → plan s (fetched w op) ≡ plan s (known w (decode (opField w)))
+plan-op s w q e d = ap (λ (o : Option Op). plan s (known w o)) (sym (ap decode (sym q ∙ e) ∙ d))
+
+module _ {w pc errorpc p t clock : ℕ} {call : Call} {count : ℕ} {gates : List CallGate} {values labels : List ℕ} {r : Verdict} {n : ℕ} (at-op : n ≡ opField w) {up : Bool} (u : up ≡ isUpcall call) where
+  -- An op that acts in so many ticks, where its check passes.
+  pub rested-row : {k : ℕ} {op : Op} → n ≡ k → decode k ≡ some op → {end : ℕ} → end ≡ endTickOf call → {check : Bool} {change : Change} {act : Act} {ticks : ℕ}
+      → Acts check change act → Timely up end clock ticks act r → ticks ≤ 10 → pc < 2048
+      → ((s : State) (limit : ℕ) → newest (seen s errorpc limit count gates pc p t clock values labels .control) ≡ call
+      → table (seen s errorpc limit count gates pc p t clock values labels) w op ≡ row check (does change) ticks)
+      → Rested w pc errorpc p t clock call count gates values labels r
+  rested-row {k} {op} e d f a m short within row-is =
+      record {
+        is =
+            λ s limit c.
+            m .is
+            ∙ timely-row (seen s errorpc limit count gates pc p t clock values labels) w op
+            (seen-upcall s errorpc limit count gates pc p t clock values labels c u)
+            (seen-end s errorpc limit count gates pc p t clock values labels c f) a
+            (row-is s limit (seen-newest s errorpc limit count gates pc p t clock values labels c))
+            ∙ plan-op _ w at-op e d;
+        held = m .held pc (a .writes pc within);
+        short = m .short short;
+      }
+
+  -- Op 19.
+  pub rested-end : n ≡ 19 → pc < 2048 → r ≡ cond up (Close 1) (Carry 1 Pass)
+      → Rested w pc errorpc p t clock call count gates values labels r
+  unfolding decode
+  rested-end e within q =
+      record {
+        is =
+            λ s limit c.
+            ap decisionOf q
+            ∙ end-row (seen s errorpc limit count gates pc p t clock values labels) w up
+            (seen-upcall s errorpc limit count gates pc p t clock values labels c u)
+            ∙ plan-op _ w at-op e refl;
+        held = rw q (go up);
+        short = rw q (few up);
+      }
+    where
+      go : (b : Bool) → Held (cond b (Close 1) (Carry 1 Pass)) pc
+      go true = tt
+      go false = within
+
+      few : (b : Bool) → Short (cond b (Close 1) (Carry 1 Pass))
+      few true = tt
+      few false = omega arith
+
+  -- Op 22.
+  pub rested-halt : n ≡ 22 → r ≡ cond up (Close 3) (Carry 1 Halt) → Rested w pc errorpc p t clock call count gates values labels r
+  unfolding decode
+  rested-halt e q =
+      record {
+        is =
+            λ s limit c.
+            ap decisionOf q
+            ∙ halt-row (seen s errorpc limit count gates pc p t clock values labels) w up
+            (seen-upcall s errorpc limit count gates pc p t clock values labels c u)
+            ∙ plan-op _ w at-op e refl;
+        held = rw q (go up);
+        short = rw q (few up);
+      }
+    where
+      go : (b : Bool) → Held (cond b (Close 3) (Carry 1 Halt)) pc
+      go true = tt
+      go false = tt
+
+      few : (b : Bool) → Short (cond b (Close 3) (Carry 1 Halt))
+      few true = tt
+      few false = omega arith
+
+  -- An unknown op.
+  pub rested-unknown : Other w → (n ≡ 15 → ⊥) → (n ≡ 16 → ⊥) → (n ≡ 17 → ⊥) → (n ≡ 18 → ⊥) → (n ≡ 19 → ⊥) → (n ≡ 20 → ⊥)
+      → (n ≡ 21 → ⊥) → (n ≡ 22 → ⊥) → (decisionOf r ≡ cond up (close 3) (cond (eqb pc errorpc) (stall 3) (carry 1 (goto errorpc)))) × Held r pc × Short r
+      → Rested w pc errorpc p t clock call count gates values labels r
+  rested-unknown o n₁ n₂ n₃ n₄ n₅ n₆ n₇ n₈ q =
+      record {
+        is =
+            λ s limit c.
+            q .0
+            ∙ fault-is (seen s errorpc limit count gates pc p t clock values labels) 3
+            (seen-upcall s errorpc limit count gates pc p t clock values labels c u)
+            ∙ ap (λ (o : Option Op). plan (seen s errorpc limit count gates pc p t clock values labels) (known w o)) (sym (ap decode (sym at-op) ∙ unknown));
+        held = q .1;
+        short = q .2;
+      }
+    where
+      unknown : decode n ≡ none
+      unknown = unknown-op n (subst (λ (m : ℕ). (m ≡ 0) ⊎ (14 < m)) (sym at-op) o) n₁ n₂ n₃ n₄ n₅ n₆ n₇ n₈
+
+-- ---- the plan for a reason to stop
+
+-- A running state decides by its plan.
+pub running-decides : (s : State) → s .control .end ≡ 0 → decide s ≡ inLimit s (plan s (fetch s))
+unfolding decide running
+running-decides s e = rw (eq-eqb (s .control .end) 0 e)
+
+module _ {stop : Stop} {pc errorpc p t clock : ℕ} {call : Call} {count : ℕ} {gates : List CallGate} {values labels : List ℕ} {r : Verdict} where
+  pub planned-out : stop ≡ Out → Held r pc → Short r → Planned stop pc errorpc p t clock call count gates values labels r
+  planned-out q x y = record { is = λ s limit e c h. absurd (rw q at h); held = x; short = y }
+
+  pub planned-late : {up : Bool} → stop ≡ Late → up ≡ isUpcall call → r ≡ cond up (Close 2) Spend
+      → Planned stop pc errorpc p t clock call count gates values labels r
+  planned-late {up} q u f =
+      record {
+        is =
+            λ s limit e c h.
+            late-is (seen s errorpc limit count gates pc p t clock values labels) (rw q at h) (seen-upcall s errorpc limit count gates pc p t clock values labels c u);
+        held = rw f (held-of up);
+        short = rw f (short-of up);
+      }
+    where
+      held-of : (b : Bool) → Held (cond b (Close 2) Spend) pc
+      held-of true = tt
+      held-of false = tt
+
+      short-of : (b : Bool) → Short (cond b (Close 2) Spend)
+      short-of true = tt
+      short-of false = tt
+
+      verdict : (b : Bool) → cond b (close 2) spend ≡ decisionOf (cond b (Close 2) Spend)
+      verdict true = refl
+      verdict false = refl
+
+      late-is : (s : State) → decide s ≡ inLimit s (lateOf s) → inUpcall (s .control) ≡ up → decide s ≡ inLimit s (decisionOf r)
+      late-is s h i = h ∙ ap (inLimit s) (rw (i, f) (verdict up))
+
+  pub planned-fault : {up : Bool} (why : ℕ) → ((s : State) → Stopped stop s → fetch s ≡ failed why) → up ≡ isUpcall call
+      → (decisionOf r ≡ cond up (close 3) (cond (eqb pc errorpc) (stall why) (carry 1 (goto errorpc)))) × Held r pc × Short r
+      → Planned stop pc errorpc p t clock call count gates values labels r
+  planned-fault why f u q =
+      record {
+        is =
+            λ s limit e c h.
+            running-decides _ e ∙ ap (inLimit _)
+            (ap (plan _) (f _ h)
+            ∙ sym (q .0 ∙ fault-is (seen s errorpc limit count gates pc p t clock values labels) why
+            (seen-upcall s errorpc limit count gates pc p t clock values labels c u)));
+        held = q .1;
+        short = q .2;
+      }
+
+  pub planned-failed : stop ≡ Failed → r ≡ Close 3 → Planned stop pc errorpc p t clock call count gates values labels r
+  planned-failed q f =
+      record {
+        is = λ s limit e c h. running-decides _ e ∙ ap (inLimit _) ((rw q at h) ∙ sym (ap decisionOf f));
+        held = rw f tt;
+        short = rw f tt;
+      }
+
+  pub planned-rest : {w : ℕ} → stop ≡ Rest w → Rested w pc errorpc p t clock call count gates values labels r
+      → Planned stop pc errorpc p t clock call count gates values labels r
+  planned-rest {w} q a =
+      record {
+        is = λ s limit e c h. running-decides _ e ∙ ap (inLimit _) (word-is (seen s errorpc limit count gates pc p t clock values labels) (rw q at h) ∙ sym (a .is s limit c));
+        held = a .held;
+        short = a .short;
+      }
+    where
+      word-is : (s : State) → Uncommon s w → plan s (fetch s) ≡ plan s (known w (decode (opField w)))
+      word-is s h = ap (plan s) (h .word)
+
+  -- The plan held against the limit.
+  pub decided : {limit : ℕ} {d : Verdict} → Planned stop pc errorpc p t clock call count gates values labels d
+      → {end : ℕ} → end ≡ endTickOf call → Limited d clock limit end r
+      → Decided stop pc errorpc limit p t clock call count gates values labels r
+  decided {limit} a f b =
+      record {
+        is =
+            λ s e c h.
+            b .is (seen s errorpc limit count gates pc p t clock values labels) refl refl
+            (seen-end s errorpc limit count gates pc p t clock values labels c f)
+            ∙ sym (a .is s limit e c h);
+        admits = rw (← f) (b .admits pc (a .held));
+      }
+
+-- What is known of the word for a reason to stop.
+pub ready-rest : {stop : Stop} {pc w : ℕ} → stop ≡ Rest w → Ready stop pc → (pc < 2048) × Other w
+ready-rest q h = rw q at h

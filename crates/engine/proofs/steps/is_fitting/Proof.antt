@@ -1,0 +1,14 @@
+-- `engine::steps::is_fitting` meets its contract.
+-- Assumes nothing.
+use borrow.Author.Needs.{needs}
+use Rattle.engine.proofs.steps.is_fitting.Statement.{statement}
+use Rattle.engine.proofs.steps.is_fitting.Tie as tie
+
+index-requires : tie.Need-index-requires
+index-requires c κs = search needs
+
+returns : tie.Need-returns
+returns c = rw (c .before .before .before .before .before .index .ensures)
+
+pub is-fitting-spec : {M : Type 1} → statement M
+is-fitting-spec = tie.close (tie.spec index-requires returns)

@@ -1,0 +1,126 @@
+-- One turn of the hot loop, as its functions promise it: by equation with what a step of the model does.
+-- Assumes nothing.
+use Prim.Native.Nat.{ℕ, _+_, _≤_, _<_}
+use mathlib.Core.Path.{_≡_}
+use mathlib.Core.Bool.{Bool, true, false, _&&_, cond}
+use mathlib.Core.Logic.{_⊎_}
+use mathlib.Core.List.{List}
+use lib.Dec.{leb, ltb}
+use lib.ListN.{getD, set}
+use Rattle.labels.specs.Label.{flows, join}
+use Rattle.model.specs.Record.{State, inUpcall}
+use Rattle.model.specs.Word.{opField, decode}
+use Rattle.model.specs.Step.{Decision, close, spend, failed, fetch, known, endTick, plan, inLimit, decide, step, moved}
+use Rattle.engine.specs.declared.steps.common.Stop.{Stop}
+use Rattle.engine.specs.declared.steps.common.Stop.the-variants.{Out, Late, Outside, Unreadable, Failed, Rest}
+use Rattle.engine.specs.declared.steps.common.Turn.{Turn}
+
+-- ---- what the leaves answer
+
+-- The turn did a step.
+abbrev pub going : ℕ → ℕ → Turn
+going pc clock = record { done = true; pc = pc; clock = clock; stop = Out }
+
+-- The turn did none.
+abbrev pub stopping : Stop → ℕ → ℕ → Turn
+stopping stop pc clock = record { done = false; pc = pc; clock = clock; stop = stop }
+
+-- An op of so many ticks that goes on at pc′, if it finishes by the deadline.
+abbrev pub timed : ℕ → ℕ → ℕ → ℕ → ℕ → Turn
+timed ticks pc′ pc clock deadline =
+    cond (leb (clock + ticks) deadline) (going pc′ (clock + ticks)) (stopping Late pc clock)
+
+-- A branch or jump.
+unfoldable pub gone : Bool → ℕ → Bool → ℕ → ℕ → ℕ → Turn
+gone ok target up pc clock deadline =
+    cond ok (timed 1 target pc clock deadline) (cond up (stopping Failed pc clock) (timed 1 (pc + 1) pc clock deadline))
+
+-- What a branch or jump answers.
+pub record Gone (ok : Bool) (target : ℕ) (up : Bool) (pc clock deadline : ℕ) (r : Turn) : Type 0 where
+  pub turn : r ≡ gone ok target up pc clock deadline
+
+-- Register a got v if the op finishes by the deadline and the check passed.
+pub record Assigned (before : List ℕ) (a : ℕ) (ok : Bool) (v ticks pc clock deadline : ℕ) (r : Turn) (after : List ℕ) : Type 0 where
+  pub turn : r ≡ timed ticks (pc + 1) pc clock deadline
+  pub values : after ≡ cond (leb (clock + ticks) deadline) (cond ok (set before a v) before) before
+
+-- The same with word x, and the check of op 9.
+pub record Loaded (before words marks : List ℕ) (a x p lb la size pc clock deadline : ℕ) (r : Turn) (after : List ℕ) : Type 0 where
+  pub turn : r ≡ timed 3 (pc + 1) pc clock deadline
+  pub values :
+      after ≡ cond (leb (clock + 3) deadline)
+      (cond (ltb x size && flows (join (join p lb) (getD marks x 0)) la) (set before a (getD words x 0)) before)
+      before
+
+-- Word x got v if the op finishes by the deadline and the check of op 10 passed.
+pub record Stored (before marks : List ℕ) (x v p lb la size pc clock deadline : ℕ) (r : Turn) (after : List ℕ) : Type 0 where
+  pub turn : r ≡ timed 3 (pc + 1) pc clock deadline
+  pub words :
+      after ≡ cond (leb (clock + 3) deadline)
+      (cond (ltb x size && flows (join (join p lb) la) (getD marks x 0)) (set before x v) before)
+      before
+
+-- ---- the state of the hot loop, and what a turn means to it
+
+-- The state s with what the hot loop holds in its place: size, pc label, timing label, pc, clock, registers and memory.
+abbrev pub view : State → ℕ → ℕ → ℕ → ℕ → ℕ → List ℕ → List ℕ → List ℕ → List ℕ → State
+view s size p t pc clock values labels words marks =
+    record {
+      fixed = record { size = size; limit = s .fixed .limit; errorpc = s .fixed .errorpc; count = s .fixed .count; gates = s .fixed .gates };
+      control =
+          record { pc = pc; pair = record { pc = p; timing = t }; clock = clock; first = s .control .first; second = s .control .second; end = s .control .end; why = s .control .why };
+      registers = record { values = values; labels = labels };
+      memory = record { values = words; labels = marks };
+    }
+
+-- The state s at another pc and clock, with other register values and words.
+abbrev pub moving : State → ℕ → ℕ → List ℕ → List ℕ → State
+moving s pc clock values words =
+    record {
+      fixed = s .fixed;
+      control = moved (s .control) clock pc;
+      registers = record { values = values; labels = s .registers .labels };
+      memory = record { values = words; labels = s .memory .labels };
+    }
+
+-- The tick by which a common op has to finish: the limit, or in an upcall its end tick if that is below the limit.
+abbrev pub deadlineOf : Bool → ℕ → ℕ → ℕ
+deadlineOf up e limit = cond up (cond (ltb e limit) e limit) limit
+
+-- The state runs, up says whether it is in an upcall, and the deadline is its deadline.
+pub record Timed (s : State) (up : Bool) (deadline : ℕ) : Type 0 where
+  pub running : s .control .end ≡ 0
+  pub upcall : inUpcall (s .control) ≡ up
+  pub due : deadline ≡ deadlineOf up (endTick s) (s .fixed .limit)
+
+-- What an op does that would finish past the deadline, but for the limit.
+abbrev pub lateOf : State → Decision
+lateOf s = cond (inUpcall (s .control)) (close 2) spend
+
+-- The word w is fetched, and its op is no common one.
+pub record Uncommon (s : State) (w : ℕ) : Type 0 where
+  pub word : fetch s ≡ known w (decode (opField w))
+  pub within : s .control .pc < s .fixed .size
+  pub op : (opField w ≡ 0) ⊎ (14 < opField w)
+
+-- What each reason to stop says of the state.
+abbrev pub Stopped : Stop → State → Type 0
+Stopped Out s = ⊥
+Stopped Late s = decide s ≡ inLimit s (lateOf s)
+Stopped Outside s = fetch s ≡ failed 1
+Stopped Unreadable s = fetch s ≡ failed 2
+Stopped Failed s = plan s (fetch s) ≡ close 3
+Stopped (Rest w) s = Uncommon s w
+
+-- A turn in the state s: a step of the model, or a reason to stop, with registers and memory left.
+pub record Turned (s : State) (deadline : ℕ) (r : Turn) (values words : List ℕ) : Type 0 where
+  pub goes : r .done ≡ true → step s ≡ moving s (r .pc) (r .clock) values words
+  pub stops : r .done ≡ false → Stopped (r .stop) s × (values ≡ s .registers .values) × (words ≡ s .memory .values)
+  pub clock : (m : ℕ) → s .control .clock ≤ m → deadline ≤ m → r .clock ≤ m
+
+-- What a turn at the fetched word w promises, for every state that the hot loop's view fits.
+abbrev pub Common : ℕ → ℕ → ℕ → Bool → ℕ → ℕ → ℕ → List ℕ → List ℕ → List ℕ → List ℕ → ℕ → Turn → List ℕ → List ℕ → Type 0
+Common size p t up deadline pc clock values labels words marks w r values′ words′ =
+    (s : State) → Timed (view s size p t pc clock values labels words marks) up deadline
+    → fetch (view s size p t pc clock values labels words marks) ≡ known w (decode (opField w))
+    → Turned (view s size p t pc clock values labels words marks) deadline r values′ words′

@@ -1,0 +1,51 @@
+-- So many steps, as they are promised.
+-- Assumes nothing.
+use Prim.Native.Nat.{ℕ, _≤_}
+use mathlib.Core.Path.{_≡_}
+use mathlib.Core.Bool.{Bool, _&&_, cond}
+use mathlib.Core.List.{List}
+use lib.Dec.{leb}
+use lib.ListN.{length}
+use Rattle.model.specs.declared.Pair.{Pair}
+use Rattle.model.specs.declared.Call.{Call}
+use Rattle.model.specs.declared.Fixed.{Fixed}
+use Rattle.model.specs.declared.Control.{Control}
+use Rattle.model.specs.Record.{State, isUpcall, endTickOf}
+use Rattle.model.specs.Step.{steps}
+use Rattle.engine.specs.declared.steps.common.Context.{Context}
+use Rattle.engine.specs.Common.{deadlineOf}
+
+-- The state of these parts.
+abbrev pub stateFrom : Fixed → Control → List ℕ → List ℕ → List ℕ → List ℕ → State
+stateFrom fixed control values labels words marks =
+    record { fixed = fixed; control = control; registers = record { values = values; labels = labels }; memory = record { values = words; labels = marks } }
+
+-- What the hot loop is told with this newest call.
+abbrev pub contextOf : ℕ → ℕ → Pair → Call → Context
+contextOf size limit pair call =
+    record { size = size; p = pair .pc; t = pair .timing; up = isUpcall call; deadline = deadlineOf (isUpcall call) (endTickOf call) limit }
+
+-- The ranges hold that the steps rest on, and words and labels are lent whole.
+abbrev pub fitting : State → Bool
+fitting s =
+    leb (s .fixed .size) 2048 && leb (s .fixed .limit) 16777216 && leb (s .fixed .count) 8 && leb (s .control .clock) (s .fixed .limit)
+    && leb (s .fixed .size) (length (s .memory .values)) && leb (s .fixed .size) (length (s .memory .labels))
+
+-- So many steps of such a state. Any other stays as it is.
+abbrev pub advanced : ℕ → State → State
+advanced n s = cond (fitting s) (steps n s) s
+
+-- ======== Here ends what the public promise cites.
+
+-- What the steps ask: the ranges of the record, and memory that is lent whole.
+pub record Fit (fixed : Fixed) (control : Control) (lent lentMarks : List ℕ) : Type 0 where
+  pub size : fixed .size ≤ 2048
+  pub limit : fixed .limit ≤ 16777216
+  pub gates : fixed .count ≤ 8
+  pub clock : control .clock ≤ fixed .limit
+  pub words : fixed .size ≤ length lent
+  pub marks : fixed .size ≤ length lentMarks
+
+-- The steps of the model were done.
+pub record Driven (fixed : Fixed) (start : Control) (count : ℕ) (values labels words marks : List ℕ) (r : Control) (values′ labels′ words′ : List ℕ) : Type 0 where
+  pub is : stateFrom fixed r values′ labels′ words′ marks ≡ steps count (stateFrom fixed start values labels words marks)

@@ -1,0 +1,79 @@
+// Open calls: which is the newest, of which kind it is, and what it keeps.
+use model::Call;
+use model::Pair;
+ghost use mathlib.Core.Path.{_≡_};
+ghost use Rattle.model.specs.Record.{isEmpty, isGate, isUpcall, pairOf, returnOf, endTickOf};
+ghost use Rattle.engine.specs.Rest.{newestOf};
+
+// The newest of two open calls.
+pub(crate) fn newest(first: Call, second: Call) -> Call
+    ensures { λ r. ⌜ r ≡ newestOf first second ⌝ }
+{
+    match second {
+        Call::Empty => first,
+        Call::Gate(_, _) => second,
+        Call::Upcall(_, _, _) => second,
+    }
+}
+
+pub(crate) fn is_empty(call: Call) -> bool
+    ensures { λ r. ⌜ r ≡ isEmpty call ⌝ }
+{
+    match call {
+        Call::Empty => true,
+        Call::Gate(_, _) => false,
+        Call::Upcall(_, _, _) => false,
+    }
+}
+
+pub(crate) fn is_gate(call: Call) -> bool
+    ensures { λ r. ⌜ r ≡ isGate call ⌝ }
+{
+    match call {
+        Call::Empty => false,
+        Call::Gate(_, _) => true,
+        Call::Upcall(_, _, _) => false,
+    }
+}
+
+pub(crate) fn is_upcall(call: Call) -> bool
+    ensures { λ r. ⌜ r ≡ isUpcall call ⌝ }
+{
+    match call {
+        Call::Empty => false,
+        Call::Gate(_, _) => false,
+        Call::Upcall(_, _, _) => true,
+    }
+}
+
+pub(crate) fn end_tick(call: Call) -> u64
+    ensures { λ r. ⌜ r ≡ endTickOf call ⌝ }
+{
+    match call {
+        Call::Empty => 0,
+        Call::Gate(_, _) => 0,
+        Call::Upcall(_, _, e) => e,
+    }
+}
+
+// The pair that a call keeps.
+pub(crate) fn kept_pair(call: Call) -> Pair
+    ensures { λ r. ⌜ r ≡ pairOf call ⌝ }
+{
+    match call {
+        Call::Empty => Pair { pc: 0, timing: 0 },
+        Call::Gate(_, q) => q,
+        Call::Upcall(_, q, _) => q,
+    }
+}
+
+// Where a call goes on when it closes.
+pub(crate) fn return_pc(call: Call) -> u32
+    ensures { λ r. ⌜ r ≡ returnOf call ⌝ }
+{
+    match call {
+        Call::Empty => 0,
+        Call::Gate(k, _) => k,
+        Call::Upcall(k, _, _) => k,
+    }
+}

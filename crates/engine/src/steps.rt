@@ -1,0 +1,46 @@
+// So many steps. The ranges that they rest on, and that memory is lent whole, are tested first; where that doesn't hold,
+// nothing is done. The functions below that ask something of their caller are seen here alone.
+use crate::word::index;
+use drive::drive;
+use model::Control;
+use model::Fixed;
+ghost use mathlib.Core.Path.{_≡_};
+ghost use mathlib.Core.Bool.{_&&_};
+ghost use lib.Dec.{leb};
+ghost use Rattle.engine.specs.Drive.{stateFrom, advanced};
+
+mod apply;
+mod common;
+mod drive;
+mod rest;
+
+// Whether the steps can be done with words and labels of these lengths.
+fn is_fitting(fixed: Fixed, start: Control, words: usize, labels: usize) -> bool
+    ensures { λ r. ⌜ r ≡ (leb (fixed .size) 2048 && leb (fixed .limit) 16777216 && leb (fixed .count) 8 && leb (start .clock) (fixed .limit) && leb (fixed .size) words && leb (fixed .size) labels) ⌝ }
+{
+    let size = index(fixed.size);
+    (fixed.size <= 2048)
+        & (fixed.limit <= 16777216)
+        & (fixed.count <= 8)
+        & (start.clock <= fixed.limit)
+        & (size <= words)
+        & (size <= labels)
+}
+
+// So many steps from the control `start`, with the registers and memory as they are lent.
+pub fn advance(
+    fixed: Fixed,
+    start: Control,
+    count: u32,
+    values: &mut [u32; 16],
+    labels: &mut [u8; 16],
+    words: &mut [u32],
+    marks: &[u8],
+) -> Control
+    ensures { λ r. ⌜ stateFrom fixed r (now (values .exit)) (now (labels .exit)) (now (words .exit)) (now (marks .entry)) ≡ advanced count (stateFrom fixed start (now (values .entry)) (now (labels .entry)) (now (words .entry)) (now (marks .entry))) ⌝ }
+{
+    if is_fitting(fixed, start, words.len(), marks.len()) {
+        return drive(fixed, start, count, values, labels, words, marks);
+    }
+    start
+}

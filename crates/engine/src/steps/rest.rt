@@ -1,0 +1,469 @@
+// What a step does where the hot loop stopped: the ops 15 to 22, failed fetches, closed upcalls, stalls and spent time.
+// Nothing here changes the machine: each function answers what is to be done.
+use crate::calls::end_tick;
+use crate::calls::is_empty;
+use crate::calls::is_gate;
+use crate::calls::is_upcall;
+use crate::calls::kept_pair;
+use crate::steps::common::Stop;
+use crate::word::a_of;
+use crate::word::b_of;
+use crate::word::c_of;
+use crate::word::d_of;
+use crate::word::index;
+use crate::word::op_of;
+use labels::Label;
+use model::Call;
+use model::CallGate;
+use model::Fixed;
+use model::Pair;
+ghost use Prim.Native.Nat.{_+_, _^_, _≤_, _<_};
+ghost use mathlib.Core.Path.{_≡_};
+ghost use mathlib.Core.Bool.{true, false, not, cond, _&&_};
+ghost use lib.Dec.{ltb, eqb};
+ghost use lib.ListN.{getD};
+ghost use Rattle.labels.specs.Label.{flows, join, meet, validPair, mayRaise, mayRelabel};
+ghost use Rattle.model.specs.Record.{isEmpty, isGate, isUpcall, pairOf, endTickOf, register};
+ghost use Rattle.model.specs.Word.{aField, bField, cField, dField};
+ghost use Rattle.model.specs.Ops.{write, goto, nothing, label, enter, openUpcall, openGate, closeGate, isLabel, noGate};
+ghost use Rattle.model.specs.Step.{close, stall, carry};
+ghost use Rattle.engine.specs.Rest.{decisionOf, allowed, newestOf, gateAllowed, Acts, Held, Short, Timely, Rested, Other, Ready, Planned, Limited, Decided};
+
+// What an op changes that is carried out.
+pub enum Act {
+    // nothing
+    Pass,
+    // on at this pc
+    Goto(u32),
+    // a register gets a label
+    SetLabel(usize, u8),
+    // another pair
+    Enter(Pair),
+    // an upcall with its return pc, its pair and its end tick
+    OpenUpcall(u32, Pair, u64),
+    OpenGate(u32, Pair),
+    CloseGate,
+    Halt,
+}
+
+// What a step does: it spends the clock, stalls, closes the upcall with a cause, or carries an act out in so many ticks.
+pub enum Verdict {
+    Spend,
+    Stall(u8),
+    Close(u8),
+    Carry(u32, Act),
+}
+
+// ---- ops 15 and 16
+
+// A value that is a label.
+fn byte(x: u32) -> u8
+    requires { ⌜ x < 256 ⌝ }
+    ensures { λ r. ⌜ r ≡ x ⌝ }
+{
+    x as u8
+}
+
+fn may_raise(x: u32, la: u8, p: u8) -> bool
+    ensures { λ r. ⌜ r ≡ (isLabel x && mayRaise p la x) ⌝ }
+{
+    if x < 256 {
+        Label(la).may_raise(Label(byte(x)), Label(p))
+    } else {
+        false
+    }
+}
+
+fn may_relabel(x: u32, la: u8, p: u8) -> bool
+    ensures { λ r. ⌜ r ≡ (isLabel x && mayRelabel p la x) ⌝ }
+{
+    if x < 256 {
+        Label(la).may_relabel(Label(byte(x)), Label(p))
+    } else {
+        false
+    }
+}
+
+fn set_label(ok: bool, a: usize, x: u32, lb: u8, p: u8) -> Act
+    requires { ⌜ (ok ≡ true → x < 256) × (a < 16) ⌝ }
+    ensures { λ r. ⌜ Acts (ok && flows lb p) (write (label (register a) x)) r ⌝ }
+{
+    if ok {
+        if Label(lb).flows_to(Label(p)) {
+            return Act::SetLabel(a, byte(x));
+        }
+    }
+    Act::Pass
+}
+
+// Op 15.
+fn raise(w: u32, p: u8, values: &[u32; 16], labels: &[u8; 16]) -> Act
+    ensures { λ r. ⌜ Acts ((isLabel (getD (now (values .entry)) (bField w) 0) && mayRaise p (getD (now (labels .entry)) (aField w) 0) (getD (now (values .entry)) (bField w) 0)) && flows (getD (now (labels .entry)) (bField w) 0) p) (write (label (register (aField w)) (getD (now (values .entry)) (bField w) 0))) r ⌝ }
+{
+    let a = a_of(w);
+    let b = b_of(w);
+    let x = values[b];
+    set_label(may_raise(x, labels[a], p), a, x, labels[b], p)
+}
+
+// Op 16.
+fn relabel(w: u32, p: u8, values: &[u32; 16], labels: &[u8; 16]) -> Act
+    ensures { λ r. ⌜ Acts ((isLabel (getD (now (values .entry)) (bField w) 0) && mayRelabel p (getD (now (labels .entry)) (aField w) 0) (getD (now (values .entry)) (bField w) 0)) && flows (getD (now (labels .entry)) (bField w) 0) p) (write (label (register (aField w)) (getD (now (values .entry)) (bField w) 0))) r ⌝ }
+{
+    let a = a_of(w);
+    let b = b_of(w);
+    let x = values[b];
+    set_label(may_relabel(x, labels[a], p), a, x, labels[b], p)
+}
+
+// ---- ops 17 and 18
+
+// Whether x and y are labels that form a valid pair, and may be read.
+fn new_pair_allowed(x: u32, y: u32, lb: u8, lc: u8, p: u8) -> bool
+    ensures { λ r. ⌜ r ≡ allowed x y lb lc p ⌝ }
+{
+    if x < 256 {
+        if y < 256 {
+            return Label(byte(x)).is_valid_pair(Label(byte(y)))
+                & Label(lb).flows_to(Label(p))
+                & Label(lc).flows_to(Label(p));
+        }
+    }
+    false
+}
+
+fn set_pair(ok: bool, x: u32, y: u32, p: u8, t: u8) -> Act
+    requires { ⌜ (ok ≡ true → (x < 256) × (y < 256)) ⌝ }
+    ensures { λ r. ⌜ Acts (ok && flows p x && flows t y) (enter (record { pc = x; timing = y })) r ⌝ }
+{
+    if ok {
+        let q = byte(x);
+        let u = byte(y);
+        if Label(p).flows_to(Label(q)) & Label(t).flows_to(Label(u)) {
+            return Act::Enter(Pair { pc: q, timing: u });
+        }
+    }
+    Act::Pass
+}
+
+// Op 17.
+fn enter(w: u32, p: u8, t: u8, values: &[u32; 16], labels: &[u8; 16]) -> Act
+    ensures { λ r. ⌜ Acts (allowed (getD (now (values .entry)) (bField w) 0) (getD (now (values .entry)) (cField w) 0) (getD (now (labels .entry)) (bField w) 0) (getD (now (labels .entry)) (cField w) 0) p && flows p (getD (now (values .entry)) (bField w) 0) && flows t (getD (now (values .entry)) (cField w) 0)) (enter (record { pc = getD (now (values .entry)) (bField w) 0; timing = getD (now (values .entry)) (cField w) 0 })) r ⌝ }
+{
+    let b = b_of(w);
+    let c = c_of(w);
+    let x = values[b];
+    let y = values[c];
+    set_pair(new_pair_allowed(x, y, labels[b], labels[c], p), x, y, p, t)
+}
+
+// Whether the labels of an upcall's length and return pc may be read, and the join of the pair flows to the new pc label.
+fn may_upcall(q: u8, p: u8, t: u8, la: u8, ld: u8) -> bool
+    ensures { λ r. ⌜ r ≡ (flows (join p t) q && flows la p && flows ld p) ⌝ }
+{
+    Label(p).join(Label(t)).flows_to(Label(q))
+        & Label(la).flows_to(Label(p))
+        & Label(ld).flows_to(Label(p))
+}
+
+fn open_upcall(
+    up: bool,
+    ok: bool,
+    x: u32,
+    y: u32,
+    p: u8,
+    t: u8,
+    la: u8,
+    ld: u8,
+    length: u32,
+    back: u32,
+    clock: u32,
+) -> Act
+    requires { ⌜ (ok ≡ true → (x < 256) × (y < 256)) × (clock ≤ 16777216) ⌝ }
+    ensures { λ r. ⌜ Acts (not up && ok && flows (join p t) x && flows la p && flows ld p) (openUpcall back (record { pc = x; timing = y }) (clock + 2 + length)) r ⌝ }
+{
+    if up {
+        return Act::Pass;
+    }
+    if ok {
+        let q = byte(x);
+        let u = byte(y);
+        if may_upcall(q, p, t, la, ld) {
+            let end = clock as u64 + 2 + length as u64;
+            return Act::OpenUpcall(back, Pair { pc: q, timing: u }, end);
+        }
+    }
+    Act::Pass
+}
+
+// Op 18.
+fn upcall(w: u32, up: bool, p: u8, t: u8, clock: u32, values: &[u32; 16], labels: &[u8; 16]) -> Act
+    requires { ⌜ clock ≤ 16777216 ⌝ }
+    ensures { λ r. ⌜ Acts (not up && allowed (getD (now (values .entry)) (bField w) 0) (getD (now (values .entry)) (cField w) 0) (getD (now (labels .entry)) (bField w) 0) (getD (now (labels .entry)) (cField w) 0) p && flows (join p t) (getD (now (values .entry)) (bField w) 0) && flows (getD (now (labels .entry)) (aField w) 0) p && flows (getD (now (labels .entry)) (dField w) 0) p) (openUpcall (getD (now (values .entry)) (dField w) 0) (record { pc = getD (now (values .entry)) (bField w) 0; timing = getD (now (values .entry)) (cField w) 0 }) (clock + 2 + getD (now (values .entry)) (aField w) 0)) r ⌝ }
+{
+    let a = a_of(w);
+    let b = b_of(w);
+    let c = c_of(w);
+    let d = d_of(w);
+    let x = values[b];
+    let y = values[c];
+    let ok = new_pair_allowed(x, y, labels[b], labels[c], p);
+    let la = labels[a];
+    let ld = labels[d];
+    open_upcall(up, ok, x, y, p, t, la, ld, values[a], values[d], clock)
+}
+
+// ---- ops 20 and 21
+
+// Whether a gate with the pair q, u may be called.
+fn may_enter(q: u8, u: u8, lb: u8, p: u8) -> bool
+    ensures { λ r. ⌜ r ≡ (validPair q u && flows q p && flows u p && flows lb p) ⌝ }
+{
+    Label(q).is_valid_pair(Label(u))
+        & Label(q).flows_to(Label(p))
+        & Label(u).flows_to(Label(p))
+        & Label(lb).flows_to(Label(p))
+}
+
+// The gate call of gate number x.
+fn open_gate(x: u32, lb: u8, p: u8, call: Call, count: u32, gates: [CallGate; 8]) -> Act
+    requires { ⌜ count ≤ 8 ⌝ }
+    ensures { λ r. ⌜ Acts (gateAllowed x lb p call count gates) (openGate (getD gates x noGate)) r ⌝ }
+{
+    if is_empty(call) {
+        if x < count {
+            let i = index(x);
+            let gate = gates[i];
+            let pair = gate.pair;
+            if may_enter(pair.pc, pair.timing, lb, p) {
+                return Act::OpenGate(gate.entry, pair);
+            }
+        }
+    }
+    Act::Pass
+}
+
+// Op 20.
+fn gate(
+    w: u32,
+    p: u8,
+    call: Call,
+    count: u32,
+    gates: [CallGate; 8],
+    values: &[u32; 16],
+    labels: &[u8; 16],
+) -> Act
+    requires { ⌜ count ≤ 8 ⌝ }
+    ensures { λ r. ⌜ Acts (gateAllowed (getD (now (values .entry)) (bField w) 0) (getD (now (labels .entry)) (bField w) 0) p call count gates) (openGate (getD gates (getD (now (values .entry)) (bField w) 0) noGate)) r ⌝ }
+{
+    let b = b_of(w);
+    open_gate(values[b], labels[b], p, call, count, gates)
+}
+
+// Op 21.
+fn close_gate(p: u8, t: u8, call: Call) -> Act
+    ensures { λ r. ⌜ Acts (isGate call && flows (join p t) (meet (pairOf call .pc) (pairOf call .timing))) closeGate r ⌝ }
+{
+    let q = kept_pair(call);
+    if is_gate(call) {
+        if Label(p)
+            .join(Label(t))
+            .flows_to(Label(q.pc).meet(Label(q.timing))) {
+            return Act::CloseGate;
+        }
+    }
+    Act::Pass
+}
+
+// ---- the verdict
+
+// An act in so many ticks, unless it finishes past the end tick of the upcall.
+fn in_time(up: bool, end: u64, clock: u32, ticks: u32, act: Act) -> Verdict
+    requires { ⌜ clock + ticks < 2 ^ 32 ⌝ }
+    ensures { λ r. ⌜ Timely up end clock ticks act r ⌝ }
+{
+    if up {
+        if end < (clock + ticks) as u64 {
+            return Verdict::Close(2);
+        }
+    }
+    Verdict::Carry(ticks, act)
+}
+
+// A failed fetch.
+fn fault(up: bool, pc: u32, errorpc: u32, why: u8) -> Verdict
+    ensures { λ r. ⌜ (decisionOf r ≡ cond up (close 3) (cond (eqb pc errorpc) (stall why) (carry 1 (goto errorpc)))) × Held r pc × Short r ⌝ }
+{
+    if up {
+        return Verdict::Close(3);
+    }
+    if pc == errorpc {
+        return Verdict::Stall(why);
+    }
+    Verdict::Carry(1, Act::Goto(errorpc))
+}
+
+// An op that would finish past the deadline.
+fn late(up: bool) -> Verdict
+    ensures { λ r. ⌜ r ≡ cond up (Verdict.Close 2) Verdict.Spend ⌝ }
+{
+    if up {
+        Verdict::Close(2)
+    } else {
+        Verdict::Spend
+    }
+}
+
+// The ops 15 to 22, and an unknown one.
+fn rest(
+    w: u32,
+    pc: u32,
+    errorpc: u32,
+    p: u8,
+    t: u8,
+    clock: u32,
+    call: Call,
+    count: u32,
+    gates: [CallGate; 8],
+    values: &[u32; 16],
+    labels: &[u8; 16],
+) -> Verdict
+    requires { ⌜ Other w × (pc < 2048) × (clock ≤ 16777216) × (count ≤ 8) ⌝ }
+    ensures { λ r. ⌜ Rested w pc errorpc p t clock call count gates (now (values .entry)) (now (labels .entry)) r ⌝ }
+{
+    let up = is_upcall(call);
+    let end = end_tick(call);
+    match op_of(w) {
+        15 => in_time(up, end, clock, 2, raise(w, p, values, labels)),
+        16 => in_time(up, end, clock, 2, relabel(w, p, values, labels)),
+        17 => in_time(up, end, clock, 2, enter(w, p, t, values, labels)),
+        18 => {
+            let act = upcall(w, up, p, t, clock, values, labels);
+            in_time(up, end, clock, 2, act)
+        }
+        19 => end_upcall(up),
+        20 => {
+            let act = gate(w, p, call, count, gates, values, labels);
+            in_time(up, end, clock, 4, act)
+        }
+        21 => in_time(up, end, clock, 4, close_gate(p, t, call)),
+        22 => halt(up),
+        _ => fault(up, pc, errorpc, 3),
+    }
+}
+
+// Op 19.
+fn end_upcall(up: bool) -> Verdict
+    ensures { λ r. ⌜ r ≡ cond up (Verdict.Close 1) (Verdict.Carry 1 Act.Pass) ⌝ }
+{
+    if up {
+        Verdict::Close(1)
+    } else {
+        Verdict::Carry(1, Act::Pass)
+    }
+}
+
+// Op 22.
+fn halt(up: bool) -> Verdict
+    ensures { λ r. ⌜ r ≡ cond up (Verdict.Close 3) (Verdict.Carry 1 Act.Halt) ⌝ }
+{
+    if up {
+        Verdict::Close(3)
+    } else {
+        Verdict::Carry(1, Act::Halt)
+    }
+}
+
+// What is to be done for a reason to stop, but for the limit.
+fn plan(
+    stop: Stop,
+    pc: u32,
+    errorpc: u32,
+    p: u8,
+    t: u8,
+    clock: u32,
+    call: Call,
+    count: u32,
+    gates: [CallGate; 8],
+    values: &[u32; 16],
+    labels: &[u8; 16],
+) -> Verdict
+    requires { ⌜ Ready stop pc × (clock ≤ 16777216) × (count ≤ 8) ⌝ }
+    ensures { λ r. ⌜ Planned stop pc errorpc p t clock call count gates (now (values .entry)) (now (labels .entry)) r ⌝ }
+{
+    match stop {
+        Stop::Out => Verdict::Spend,
+        Stop::Late => late(is_upcall(call)),
+        Stop::Outside => fault(is_upcall(call), pc, errorpc, 1),
+        Stop::Unreadable => fault(is_upcall(call), pc, errorpc, 2),
+        Stop::Failed => Verdict::Close(3),
+        Stop::Rest(w) => rest(
+            w,
+            pc,
+            errorpc,
+            p,
+            t,
+            clock,
+            call,
+            count,
+            gates,
+            values,
+            labels,
+        ),
+    }
+}
+
+// The verdict held against the limit: where it finishes beyond, or the limit is reached, the clock is spent.
+fn in_limit(d: Verdict, clock: u32, limit: u32, end: u64) -> Verdict
+    requires { ⌜ (clock ≤ limit) × (limit ≤ 16777216) × Short d ⌝ }
+    ensures { λ r. ⌜ Limited d clock limit end r ⌝ }
+{
+    if clock == limit {
+        return Verdict::Spend;
+    }
+    match d {
+        Verdict::Spend => Verdict::Spend,
+        Verdict::Stall(why) => Verdict::Stall(why),
+        Verdict::Close(cause) => if end < limit as u64 {
+            Verdict::Close(cause)
+        } else {
+            Verdict::Spend
+        },
+        Verdict::Carry(ticks, act) => if clock + ticks <= limit {
+            Verdict::Carry(ticks, act)
+        } else {
+            Verdict::Spend
+        },
+    }
+}
+
+// What is to be done for a reason to stop.
+pub(in crate::steps) fn decide(
+    stop: Stop,
+    fixed: Fixed,
+    pair: Pair,
+    pc: u32,
+    clock: u32,
+    call: Call,
+    values: &[u32; 16],
+    labels: &[u8; 16],
+) -> Verdict
+    requires { ⌜ Ready stop pc × (clock ≤ fixed .limit) × (fixed .limit ≤ 16777216) × (fixed .count ≤ 8) ⌝ }
+    ensures { λ r. ⌜ Decided stop pc (fixed .errorpc) (fixed .limit) (pair .pc) (pair .timing) clock call (fixed .count) (fixed .gates) (now (values .entry)) (now (labels .entry)) r ⌝ }
+{
+    let gates = fixed.gates;
+    let verdict = plan(
+        stop,
+        pc,
+        fixed.errorpc,
+        pair.pc,
+        pair.timing,
+        clock,
+        call,
+        fixed.count,
+        gates,
+        values,
+        labels,
+    );
+    in_limit(verdict, clock, fixed.limit, end_tick(call))
+}
