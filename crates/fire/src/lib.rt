@@ -19,7 +19,7 @@ pub fn fire(text: &[u8], words: &mut [u32], labels: &mut [u8], out: &mut [u8]) -
     let loaded = load(text, words, labels);
     let verdict = loaded.verdict;
     let number = verdict.number() as u64;
-    let line = verdict.line() as u64;
+    let line = loaded.line as u64;
     if 0 < number {
         return write_line(out, X, &[number, line]);
     }

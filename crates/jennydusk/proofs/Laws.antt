@@ -58,7 +58,7 @@ module _ (f : Machine → Bank → model.Answer) (b : List ℕ) (m : Bank) (x : 
 -- A buffer that is long enough.
 pub was-loaded :
     (text : List ℕ) (m : Bank) (b : List ℕ) (a : Loaded) {number line answer : ℕ} {buffer words labels : List ℕ}
-    → load.loadingOf a words labels ≡ loading.load text m → number ≡ load.numberOf (a .verdict) → line ≡ load.lineOf (a .verdict)
+    → load.loadingOf a words labels ≡ loading.load text m → number ≡ load.numberOf (a .verdict) → line ≡ a .line
     → buffer ≡ kept number (recordOf (a .machine)) b → answer ≡ counted number line
     → left answer buffer words labels ≡ afterLoading (loading.load text m) b
 was-loaded text m b a e n l k c = rw (k, c, n, l) (ap (λ (z : loading.Loading). afterLoading z b) e)

@@ -58,7 +58,7 @@ pub extern "C" fn jennydusk_load(
     let verdict = loaded.verdict;
     let machine = loaded.machine;
     let number = verdict.number() as u64;
-    let line = verdict.line() as u64;
+    let line = loaded.line as u64;
     keep(number, machine, record);
     counted(number, line)
 }

@@ -5,7 +5,7 @@ use mathlib.Core.Path.{_≡_, refl, sym, ap, _∙_}
 use mathlib.Core.Bool.{Bool, true, false, not, _&&_, cond}
 use mathlib.Core.List.{List, [], _∷_}
 use native.Mathlib.Omega.{arith}
-use borrow.Author.Tests.{leb-true, not-true, not-false}
+use borrow.Author.Tests.{leb-true, ne-eqb, not-true, not-false}
 use lib.Dec.{leb}
 use lib.ListN.{length, drop}
 use Rattle.labels.specs.Label.{validPair}
@@ -15,12 +15,12 @@ use Rattle.model.specs.declared.format.Read.{Read}
 use Rattle.model.specs.Record.{Bank, Machine}
 use Rattle.model.specs.WellFormed.{lentWhole}
 use Rattle.model.specs.Text.{readLine, onwards, lines}
-use Rattle.model.specs.Load.{Loading, judge, fill, cleared, headerInRange, machineOfHeader, noMachine, refusal, settle, loadLines, load}
+use Rattle.model.specs.Load.{Loading, refuse, judge, fill, cleared, headerInRange, machineOfHeader, noMachine, refusal, settle, loadLines, load}
 use Rattle.model.proofs.Truth.{and-iff}
 use Rattle.machine.specs.Answered.{recordOf}
-use Rattle.loader.specs.declared.Verdict.the-variants.{Accepted, Refused}
+use Rattle.loader.specs.declared.Verdict.{Verdict}
 use Rattle.loader.specs.declared.Loaded.{Loaded}
-use Rattle.loader.specs.Load.{bank, loadingOf, verdictOf, headerNumber, storable}
+use Rattle.loader.specs.Load.{numberOf, bank, loadingOf, verdictOf, headerNumber, storable}
 use Rattle.loader.proofs.Lines.{lines-first}
 use Rattle.loader.proofs.Judging.{Acceptable, acceptable}
 
@@ -33,10 +33,16 @@ pub passes : (t b : Bool) → t ≡ b → not t ≡ false → b ≡ true
 passes t b e n = sym e ∙ not-false t n
 
 -- A struct that refuses is a refusal.
-pub refused-loading : (r : Loaded) (number line : ℕ) (w l : List ℕ) (a : Loading)
-    → (r .verdict ≡ Refused number line) × (recordOf (r .machine) ≡ noMachine) → a ≡ refusal number line (bank w l)
+pub refused-loading : (r : Loaded) (v : Verdict) (line : ℕ) (w l : List ℕ) (a : Loading)
+    → (r .verdict ≡ v) × (r .line ≡ line) × (recordOf (r .machine) ≡ noMachine) → a ≡ refusal (numberOf v) line (bank w l)
     → loadingOf r w l ≡ a
-refused-loading r number line w l a h e = rw (h .0, h .1) (sym e)
+refused-loading r v line w l a h e = rw (h .0, h .1, h .2) (sym e)
+
+-- Such a struct is the verdict of the first pass.
+pub refused-verdict : (r : Loaded) (v : Verdict) (line : ℕ)
+    → (r .verdict ≡ v) × (r .line ≡ line) × (recordOf (r .machine) ≡ noMachine) → 0 < numberOf v
+    → verdictOf r ≡ refuse (numberOf v) line
+refused-verdict r v line h z = rw (h .0, h .1, ne-eqb (numberOf v) 0 (λ e. omega arith))
 
 -- ---- text and first line
 
@@ -147,16 +153,20 @@ module _ (text w l : List ℕ) (r : Read) (size errorpc pc p t limit : ℕ) (h :
     load-settles = load-M ∙ rw (c .range, c .valid, c .lent, judged)
 
     -- A line behind the first is refused.
-    pub load-refused : (number line : ℕ) → j .verdict ≡ Refused number line
-        → load text (bank w l) ≡ refusal number line (bank w l)
-    load-refused number line v = load-settles ∙ rw v
+    pub load-refused : 0 < numberOf (j .verdict)
+        → load text (bank w l) ≡ refusal (numberOf (j .verdict)) (j .line) (bank w l)
+    load-refused z = load-settles ∙ rw (ne-eqb (numberOf (j .verdict)) 0 (λ e. omega arith))
 
-    module _ (v : j .verdict ≡ Accepted) where
+    module _ (z : numberOf (j .verdict) ≤ 0) where
+      -- The text is accepted.
+      accepted : numberOf (j .verdict) ≡ 0
+      accepted = omega arith
+
       -- What the accepted text says.
       accepts : Acceptable (record { machine = machineOfHeader size errorpc pc p t limit; kind = 1; least = 0 })
           (lines (drop (r .next) text))
           (recordOf (j .machine))
-      accepts = acceptable _ 2 (lines (drop (r .next) text)) (recordOf (j .machine)) (judged ∙ rw v)
+      accepts = acceptable _ 2 (lines (drop (r .next) text)) (recordOf (j .machine)) (judged ∙ rw accepted)
 
       -- What the second pass asks.
       pub load-lent : (size ≤ length w) × (size ≤ length l)
@@ -169,5 +179,5 @@ module _ (text w l : List ℕ) (r : Read) (size errorpc pc p t limit : ℕ) (h :
 
       -- All lines are accepted.
       pub load-accepted : (w′ l′ : List ℕ) → bank w′ l′ ≡ fill (lines (drop (r .next) text)) (cleared size (bank w l))
-          → loadingOf j w′ l′ ≡ load text (bank w l)
-      load-accepted w′ l′ f = rw v (rw f (rw load-settles (rw (v, accepts .size))))
+          → loadingOf (record { verdict = j .verdict; line = 0; machine = j .machine }) w′ l′ ≡ load text (bank w l)
+      load-accepted w′ l′ f = rw (accepted, f) (rw load-settles (rw (accepted, accepts .size)))

@@ -2,3 +2,4 @@ pub mod Lines
 pub mod Judging
 pub mod Passes
 pub mod Answer
+pub mod Faithful

@@ -21,7 +21,7 @@ use Rattle.model.specs.Load.{Progress, refuse, accept, judge, fill, cleared, en
 use Rattle.model.proofs.Truth.{and-iff}
 use Rattle.text.proofs.read.Laws.{part, sized}
 use Rattle.loader.specs.declared.Tried.{Tried}
-use Rattle.loader.specs.Load.{progressOf, afterwards, storable, bank}
+use Rattle.loader.specs.Load.{numberOf, progressOf, afterwards, storable, bank}
 use Rattle.loader.proofs.Lines.{First, judge-first, storable-first, fill-first}
 use Rattle.loader.proofs.Judging.{EntryRange, entry-range}
 
@@ -68,10 +68,10 @@ abbrev pub Trial : Progress → Line → Tried → Type 0
 Trial g l t = (n : ℕ) (ls : List Line) → judge g n (l ∷ ls) ≡ afterwards t n ls
 
 -- A line that is accepted isn't malformed.
-pub accepted-good : (g : Progress) (l : Line) (t : Tried) → Trial g l t → t .refusal ≤ 0 → l ≡ Malformed → ⊥
+pub accepted-good : (g : Progress) (l : Line) (t : Tried) → Trial g l t → numberOf (t .verdict) ≤ 0 → l ≡ Malformed → ⊥
 unfolding judge afterwards
 accepted-good g l t h z m =
-    let c : t .refusal ≡ 0 = omega arith in
+    let c : numberOf (t .verdict) ≡ 0 = omega arith in
     let e : refuse 2 0 ≡ accept (progressOf (t .progress) .machine) =
     sym (ap (λ (k : Line). judge g 0 (k ∷ [])) m) ∙ h 0 [] ∙ rw c in
     let x : _≡_ {A = ℕ} 0 1 = cc in
@@ -89,19 +89,19 @@ module _ (text : List ℕ) (start : ℕ) (g₀ g : Progress) (at n : ℕ) (r : R
       ∙ j .same
 
   -- The line is accepted.
-  pub judged-more : t .refusal ≤ 0 → Judged text start g₀ (progressOf (t .progress)) (at + r .next) (n + 1)
+  pub judged-more : numberOf (t .verdict) ≤ 0 → Judged text start g₀ (progressOf (t .progress)) (at + r .next) (n + 1)
   unfolding afterwards
   judged-more z =
-      let c : eqb (t .refusal) 0 ≡ true = eq-eqb (t .refusal) 0 (omega arith) in
+      let c : eqb (numberOf (t .verdict)) 0 ≡ true = eq-eqb (numberOf (t .verdict)) 0 (omega arith) in
       record {
         counted = omega (arith, j .counted, moves text at r a (accepted-good g (r .line) t h z));
         same = rw c at judged-here;
       }
 
   -- The line is refused.
-  pub judged-refused : 0 < t .refusal → refuse (t .refusal) n ≡ judge g₀ 2 (lines (drop start text))
+  pub judged-refused : 0 < numberOf (t .verdict) → refuse (numberOf (t .verdict)) n ≡ judge g₀ 2 (lines (drop start text))
   unfolding afterwards
-  judged-refused z = rw (ne-eqb (t .refusal) 0 (λ e. omega arith)) at judged-here
+  judged-refused z = rw (ne-eqb (numberOf (t .verdict)) 0 (λ e. omega arith)) at judged-here
 
 -- All lines are accepted.
 pub judged-end : (text : List ℕ) (start : ℕ) (g₀ g : Progress) (at n : ℕ) → Judged text start g₀ g at n → length text ≤ at

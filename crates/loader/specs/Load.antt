@@ -11,22 +11,22 @@ use Rattle.model.specs.Load as model
 use Rattle.machine.specs.declared.Machine.{Machine}
 use Rattle.machine.specs.Answered.{recordOf}
 use Rattle.loader.specs.declared.Verdict.{Verdict}
-use Rattle.loader.specs.declared.Verdict.the-variants.{Accepted, Refused}
+use Rattle.loader.specs.declared.Verdict.the-variants.{Accepted, TextSize, MalformedLine, OutOfRange, OutOfOrder, InvalidPair, ShortMemory}
 use Rattle.loader.specs.declared.Loaded.{Loaded}
 use Rattle.loader.specs.declared.Progress.{Progress}
 use Rattle.loader.specs.declared.Tried.{Tried}
 
 -- ---- the answer of load
 
--- The refusal's number, or 0.
+-- The refusal's number in the table of document 01, "Text", or 0. No two cases have one number: proofs/Faithful.antt.
 abbrev pub numberOf : Verdict → ℕ
 numberOf Accepted = 0
-numberOf (Refused number line) = number
-
--- The refusal's line, or 0.
-abbrev pub lineOf : Verdict → ℕ
-lineOf Accepted = 0
-lineOf (Refused number line) = line
+numberOf TextSize = 1
+numberOf MalformedLine = 2
+numberOf OutOfRange = 3
+numberOf OutOfOrder = 4
+numberOf InvalidPair = 5
+numberOf ShortMemory = 6
 
 -- Words and their labels.
 abbrev pub bank : List ℕ → List ℕ → Bank
@@ -37,7 +37,7 @@ abbrev pub loadingOf : Loaded → List ℕ → List ℕ → model.Loading
 loadingOf r words labels =
     record {
       number = numberOf (r .verdict);
-      line = lineOf (r .verdict);
+      line = r .line;
       machine = recordOf (r .machine);
       memory = bank words labels;
     }
@@ -48,14 +48,9 @@ loadingOf r words labels =
 abbrev pub progressOf : Progress → model.Progress
 progressOf g = record { machine = recordOf (g .machine); kind = g .kind; least = g .least }
 
--- The verdict on the lines.
-abbrev pub verdictBy : Verdict → Machine → model.Verdict
-verdictBy Accepted m = model.accept (recordOf m)
-verdictBy (Refused number line) m = model.refuse number line
-
 -- The verdict that an answer of the first pass gives.
 abbrev pub verdictOf : Loaded → model.Verdict
-verdictOf r = verdictBy (r .verdict) (r .machine)
+verdictOf r = cond (eqb (numberOf (r .verdict)) 0) (model.accept (recordOf (r .machine))) (model.refuse (numberOf (r .verdict)) (r .line))
 
 -- The first cause that holds of the M line: 3 (range), 5 (pair), 6 (lent memory); 0 where there is none.
 unfoldable pub headerNumber : Bool → Bool → Bool → ℕ
@@ -67,7 +62,8 @@ lineNumber inOrder inRange rising = cond inOrder (cond inRange (cond rising 0 4)
 
 -- What follows the trial of line n: the lines behind it are judged, or it is refused.
 unfoldable pub afterwards : Tried → ℕ → List Line → model.Verdict
-afterwards r n ls = cond (eqb (r .refusal) 0) (model.judge (progressOf (r .progress)) (n + 1) ls) (model.refuse (r .refusal) n)
+afterwards r n ls =
+    cond (eqb (numberOf (r .verdict)) 0) (model.judge (progressOf (r .progress)) (n + 1) ls) (model.refuse (numberOf (r .verdict)) n)
 
 -- ---- the lines written
 

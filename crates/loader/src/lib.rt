@@ -20,12 +20,23 @@ ghost use Rattle.model.specs.declared.format.Line.{Line};
 ghost use Rattle.model.specs.Text.{lines};
 ghost use Rattle.model.specs.Load.{machineOfHeader, withGate, withRegister, headerInRange, gateInRange, entryInRange, leastOf, judge, fill, cleared, noMachine, load};
 ghost use Rattle.machine.specs.Answered.{recordOf};
-ghost use Rattle.loader.specs.Load.{numberOf, lineOf, bank, loadingOf, progressOf, verdictOf, headerNumber, lineNumber, afterwards, storable};
+ghost use Rattle.loader.specs.Load.{numberOf, bank, loadingOf, progressOf, verdictOf, headerNumber, lineNumber, afterwards, storable};
 
+// Accepted, or the refusal: one case for each number of the table, so that number and case say the same.
 pub enum Verdict {
     Accepted,
-    // The refusal's number and the line.
-    Refused(u8, u32),
+    // The text is empty or too long.
+    TextSize,
+    // A line is malformed, or the first is no M line.
+    MalformedLine,
+    // A number is outside its range, or a ninth gate.
+    OutOfRange,
+    // A kind is out of order, a second M line, or a number isn't rising.
+    OutOfOrder,
+    // The pair of the M line isn't valid.
+    InvalidPair,
+    // The lent words or labels are shorter than the size.
+    ShortMemory,
 }
 
 impl Verdict {
@@ -35,24 +46,20 @@ impl Verdict {
     {
         match self {
             Verdict::Accepted => 0,
-            Verdict::Refused(number, _) => number,
-        }
-    }
-
-    // The refusal's line, or 0.
-    pub fn line(self) -> u32
-        ensures { λ r. ⌜ r ≡ lineOf self ⌝ }
-    {
-        match self {
-            Verdict::Accepted => 0,
-            Verdict::Refused(_, line) => line,
+            Verdict::TextSize => 1,
+            Verdict::MalformedLine => 2,
+            Verdict::OutOfRange => 3,
+            Verdict::OutOfOrder => 4,
+            Verdict::InvalidPair => 5,
+            Verdict::ShortMemory => 6,
         }
     }
 }
 
-// Beside a refusal stands a record of size 0.
+// The verdict, the refusal's line or 0, and the record: beside a refusal stands one of size 0.
 pub struct Loaded {
     pub verdict: Verdict,
+    pub line: u32,
     pub machine: Machine,
 }
 
@@ -64,32 +71,11 @@ struct Progress {
     least: u32,
 }
 
-// A line tried: 0 and how far the lines have come with it, or the refusal's number.
+// A line tried: how far the lines have come with it, where it is accepted.
 struct Tried {
-    refusal: u8,
+    verdict: Verdict,
     progress: Progress,
 }
-
-// Refusal: the text is empty or too long.
-const TEXT_SIZE: u8 = 1;
-
-// Refusal: a line is malformed, or the first is no M line.
-const MALFORMED: u8 = 2;
-
-// Refusal: a number outside its range, or a ninth gate.
-const OUT_OF_RANGE: u8 = 3;
-
-// Refusal: a kind out of order, or a second M line.
-const OUT_OF_ORDER: u8 = 4;
-
-// Refusal, with the same number: a register number or an address that isn't rising.
-const NOT_RISING: u8 = 4;
-
-// Refusal: the pair of the M line isn't valid.
-const INVALID_PAIR: u8 = 5;
-
-// Refusal: the lent words or labels are shorter than the size.
-const SHORT_MEMORY: u8 = 6;
 
 // The kind of an M or G line.
 const GATE: u8 = 1;
@@ -157,11 +143,12 @@ fn blank_machine(size: u32, errorpc: u32, pc: u32, pair: Pair, limit: u32) -> Ma
 }
 
 // A refusal.
-fn refused(number: u8, line: u32) -> Loaded
-    ensures { λ r. ⌜ (r .verdict ≡ Verdict.Refused number line) × (recordOf (r .machine) ≡ noMachine) ⌝ }
+fn refused(verdict: Verdict, line: u32) -> Loaded
+    ensures { λ r. ⌜ (r .verdict ≡ verdict) × (r .line ≡ line) × (recordOf (r .machine) ≡ noMachine) ⌝ }
 {
     Loaded {
-        verdict: Verdict::Refused(number, line),
+        verdict: verdict,
+        line: line,
         machine: blank_machine(0, 0, 0, Pair { pc: 0, timing: 0 }, 0),
     }
 }
@@ -194,8 +181,8 @@ fn entry_in_range(bound: u32, k: u64, label: u64, value: u64) -> bool
     (k < bound as u64) & (label < LABELS) & (value < VALUES)
 }
 
-// The first cause for which an M line is refused, or 0: its ranges, its pair, the lent memory.
-fn header_refusal(
+// The verdict on an M line, by the first cause that holds: its ranges, its pair, the lent memory.
+fn header_verdict(
     size: u64,
     errorpc: u64,
     pc: u64,
@@ -204,35 +191,35 @@ fn header_refusal(
     limit: u64,
     words: usize,
     labels: usize,
-) -> u8
-    ensures { λ r. ⌜ r ≡ headerNumber (headerInRange size errorpc pc p t limit) (validPair p t) (leb size words && leb size labels) ⌝ }
+) -> Verdict
+    ensures { λ r. ⌜ numberOf r ≡ headerNumber (headerInRange size errorpc pc p t limit) (validPair p t) (leb size words && leb size labels) ⌝ }
 {
     let numbers_fit = header_in_range(size, errorpc, pc, p, t, limit);
     let lent_whole = (size <= words as u64) & (size <= labels as u64);
     if !numbers_fit {
-        return OUT_OF_RANGE;
+        return Verdict::OutOfRange;
     }
     if !Label(p as u8).is_valid_pair(Label(t as u8)) {
-        return INVALID_PAIR;
+        return Verdict::InvalidPair;
     }
     if !lent_whole {
-        return SHORT_MEMORY;
+        return Verdict::ShortMemory;
     }
-    0
+    Verdict::Accepted
 }
 
-// The first cause for which a line behind it is refused, or 0: its kind, its ranges, its number.
-fn line_refusal(in_order: bool, in_range: bool, rising: bool) -> u8
-    ensures { λ r. ⌜ r ≡ lineNumber «in_order» «in_range» rising ⌝ }
+// The verdict on a line behind it, by the first cause that holds: its kind, its ranges, its number.
+fn line_verdict(in_order: bool, in_range: bool, rising: bool) -> Verdict
+    ensures { λ r. ⌜ numberOf r ≡ lineNumber «in_order» «in_range» rising ⌝ }
 {
     if !in_order {
-        OUT_OF_ORDER
+        Verdict::OutOfOrder
     } else if !in_range {
-        OUT_OF_RANGE
+        Verdict::OutOfRange
     } else if !rising {
-        NOT_RISING
+        Verdict::OutOfOrder
     } else {
-        0
+        Verdict::Accepted
     }
 }
 
@@ -287,14 +274,14 @@ fn try_line(progress: Progress, line: Line) -> Tried
 {
     match line {
         Line::M(_, _, _, _, _, _) => Tried {
-            refusal: OUT_OF_ORDER,
+            verdict: Verdict::OutOfOrder,
             progress: progress,
         },
         Line::G(pc, p, t) => try_gate(progress, pc, p, t),
         Line::R(k, label, value) => try_register(progress, k, label, value),
         Line::W(k, label, value) => try_word(progress, k, label, value),
         Line::Malformed => Tried {
-            refusal: MALFORMED,
+            verdict: Verdict::MalformedLine,
             progress: progress,
         },
     }
@@ -306,20 +293,20 @@ fn try_gate(progress: Progress, pc: u64, p: u64, t: u64) -> Tried
 {
     let machine = progress.machine;
     let in_range = gate_in_range(machine.fixed.count, pc, p, t);
-    let refusal = line_refusal(progress.kind <= GATE, in_range, true);
-    if refusal == 0 {
+    let verdict = line_verdict(progress.kind <= GATE, in_range, true);
+    if verdict.number() == 0 {
         let next = Progress {
             machine: with_gate(machine, pc, p, t),
             kind: GATE,
             least: 0,
         };
         return Tried {
-            refusal: 0,
+            verdict: Verdict::Accepted,
             progress: next,
         };
     }
     Tried {
-        refusal: refusal,
+        verdict: verdict,
         progress: progress,
     }
 }
@@ -331,20 +318,20 @@ fn try_register(progress: Progress, k: u64, label: u64, value: u64) -> Tried
     let machine = progress.machine;
     let in_range = entry_in_range(REGISTERS, k, label, value);
     let rising = least_of(progress, REGISTER) as u64 <= k;
-    let refusal = line_refusal(progress.kind <= REGISTER, in_range, rising);
-    if refusal == 0 {
+    let verdict = line_verdict(progress.kind <= REGISTER, in_range, rising);
+    if verdict.number() == 0 {
         let next = Progress {
             machine: with_register(machine, k, label, value),
             kind: REGISTER,
             least: k as u32 + 1,
         };
         return Tried {
-            refusal: 0,
+            verdict: Verdict::Accepted,
             progress: next,
         };
     }
     Tried {
-        refusal: refusal,
+        verdict: verdict,
         progress: progress,
     }
 }
@@ -356,20 +343,20 @@ fn try_word(progress: Progress, k: u64, label: u64, value: u64) -> Tried
     let machine = progress.machine;
     let in_range = entry_in_range(machine.fixed.size, k, label, value);
     let rising = least_of(progress, WORD) as u64 <= k;
-    let refusal = line_refusal(progress.kind <= WORD, in_range, rising);
-    if refusal == 0 {
+    let verdict = line_verdict(progress.kind <= WORD, in_range, rising);
+    if verdict.number() == 0 {
         let next = Progress {
             machine: machine,
             kind: WORD,
             least: k as u32 + 1,
         };
         return Tried {
-            refusal: 0,
+            verdict: Verdict::Accepted,
             progress: next,
         };
     }
     Tried {
-        refusal: refusal,
+        verdict: verdict,
         progress: progress,
     }
 }
@@ -390,8 +377,9 @@ fn judge_lines(text: &[u8], start: usize, machine: Machine) -> Loaded
         let read = read_line(&text[at..]);
         let line = read.line;
         let tried = try_line(progress, line);
-        if 0 < tried.refusal {
-            return refused(tried.refusal, number);
+        let verdict = tried.verdict;
+        if 0 < verdict.number() {
+            return refused(verdict, number);
         }
         let next = tried.progress;
         progress = next;
@@ -401,6 +389,7 @@ fn judge_lines(text: &[u8], start: usize, machine: Machine) -> Loaded
     let accepted = progress.machine;
     Loaded {
         verdict: Verdict::Accepted,
+        line: 0,
         machine: accepted,
     }
 }
@@ -466,16 +455,16 @@ pub fn load(text: &[u8], words: &mut [u32], labels: &mut [u8]) -> Loaded
 {
     let well_sized = (1 <= text.len()) & (text.len() <= LONGEST_TEXT);
     if !well_sized {
-        return refused(TEXT_SIZE, 0);
+        return refused(Verdict::TextSize, 0);
     }
     let read = read_line(text);
     let first = read.line;
     let Line::M(size, errorpc, pc, p, t, limit) = first else {
-        return refused(MALFORMED, 1);
+        return refused(Verdict::MalformedLine, 1);
     };
-    let refusal = header_refusal(size, errorpc, pc, p, t, limit, words.len(), labels.len());
-    if 0 < refusal {
-        return refused(refusal, 1);
+    let header = header_verdict(size, errorpc, pc, p, t, limit, words.len(), labels.len());
+    if 0 < header.number() {
+        return refused(header, 1);
     }
     let pair = Pair {
         pc: p as u8,
@@ -484,10 +473,15 @@ pub fn load(text: &[u8], words: &mut [u32], labels: &mut [u8]) -> Loaded
     let machine = blank_machine(size as u32, errorpc as u32, pc as u32, pair, limit as u32);
     let start = read.next;
     let judged = judge_lines(text, start, machine);
-    let verdict = judged.verdict;
-    if let Verdict::Refused(number, line) = verdict {
-        return refused(number, line);
+    let rest = judged.verdict;
+    if 0 < rest.number() {
+        return refused(rest, judged.line);
     }
     write_memory(text, start, size as usize, words, labels);
-    judged
+    let accepted = judged.machine;
+    Loaded {
+        verdict: rest,
+        line: 0,
+        machine: accepted,
+    }
 }

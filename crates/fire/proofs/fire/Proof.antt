@@ -1,6 +1,6 @@
 -- `fire::fire` meets its contract: a refused load's line, or the listing after the run.
 -- Assumes nothing.
-use mathlib.Core.Path.{_∙_}
+use mathlib.Core.Path.{refl, _∙_}
 use borrow.Author.Needs.{needs}
 use Rattle.machine.specs.Answered.{lent}
 use Rattle.text.specs.Writing.{answer}
@@ -16,9 +16,6 @@ number-requires c κs = search needs
 
 cast-number : tie.Need-cast-number
 cast-number c = search needs
-
-line-requires : tie.Need-line-requires
-line-requires c κs = search needs
 
 cast-line : tie.Need-cast-line
 cast-line c = search needs
@@ -47,7 +44,7 @@ returns c =
     refused-firing (start .args .text .now) (lent (start .args .words .now) (start .args .labels .now))
     (start .args .out .now) _ (loaded .load .ensures) (tested .before .before .number .ensures)
     (answer (written .write-line .result) (written .write-line .last .0)) (tested .if1 .taken)
-    (tested .before .line .ensures) (written .write-line .ensures)
+    refl (written .write-line .ensures)
 
 run-requires : tie.Need-run-requires
 run-requires c κs = search needs
@@ -92,7 +89,6 @@ fire-spec =
     load-requires
     number-requires
     cast-number
-    line-requires
     cast-line
     slice-aggregate-write-line
     write-line-requires

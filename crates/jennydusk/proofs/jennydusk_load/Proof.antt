@@ -22,9 +22,6 @@ number-requires c κs = search needs
 cast-number : tie.Need-cast-number
 cast-number c = search needs
 
-line-requires : tie.Need-line-requires
-line-requires c κs = search needs
-
 cast-line : tie.Need-cast-line
 cast-line c = search needs
 
@@ -54,7 +51,7 @@ returns-2 c =
     rw (le-leb 76 _ (long .if1 .left))
     (was-loaded (start .args .text .now) (lent (start .args .words .now) (start .args .labels .now))
     (start .args .«record» .now) (loading .load .result) (loading .load .ensures) (judged .number .ensures)
-    (kept .before .before .line .ensures) (kept .keep .ensures) (c .counted .ensures))
+    refl (kept .keep .ensures) (c .counted .ensures))
 
 pub jennydusk-load-spec : {M : Type 1} → statement M
 jennydusk-load-spec =
@@ -64,7 +61,6 @@ jennydusk-load-spec =
     load-requires
     number-requires
     cast-number
-    line-requires
     cast-line
     keep-requires
     counted-requires

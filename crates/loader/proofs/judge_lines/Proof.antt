@@ -1,14 +1,14 @@
 -- `loader::judge_lines` meets its contract: the verdict on the lines that are left is the verdict on all. Each
 -- turn takes a line, of a byte at least.
 -- Assumes nothing.
-use Prim.Native.Nat.{_-_}
+use Prim.Native.Nat.{_-_, _<_}
 use mathlib.Core.Path.{refl, ap, _∙_}
 use native.Mathlib.Omega.{arith}
 use lib.ListN.{length}
 use borrow.Author.Needs.{needs}
+use Rattle.loader.proofs.Answer.{refused-verdict}
 use Rattle.loader.proofs.Passes.{Judged, read-at, moves, accepted-good, judged-more, judged-refused, judged-end}
-use Rattle.loader.specs.Load.{progressOf, verdictBy}
-use Rattle.loader.specs.declared.Verdict.{Verdict}
+use Rattle.loader.specs.Load.{numberOf, progressOf}
 use Rattle.loader.proofs.judge_lines.Statement.{statement}
 use Rattle.loader.proofs.judge_lines.Tie as tie
 
@@ -36,6 +36,9 @@ read-line-requires c κs = search needs
 try-line-requires : tie.Need-try-line-requires Inv-loop μ-loop
 try-line-requires c κs = search needs
 
+number-requires : tie.Need-number-requires Inv-loop μ-loop
+number-requires c κs = search needs
+
 refused-requires : tie.Need-refused-requires Inv-loop μ-loop
 refused-requires c κs = search needs
 
@@ -45,10 +48,11 @@ returns c =
     let a = read-at x (c .before .before .before .before .before .before .before .loop .at) _
     (c .before .before .before .before .before .before .loop-test .taken)
     (c .before .before .before .before .read-line .ensures) in
-    ap (λ (v : Verdict). verdictBy v (c .refused .result .machine)) (c .refused .ensures .0) ∙ judged-refused _ _ _
+    let z : 0 < numberOf (c .before .before .before .try-line .result .verdict) = rw (c .before .before .number .ensures) at (c .before .if1 .taken) in
+    refused-verdict _ _ _ (c .refused .ensures) z ∙ judged-refused _ _ _
     (progressOf (c .before .before .before .before .before .before .before .loop .progress)) _ _ _
     (c .before .before .before .try-line .result) a (c .before .before .before .try-line .ensures)
-    (c .before .before .before .before .before .before .before .loop .inv) (omega arith)
+    (c .before .before .before .before .before .before .before .loop .inv) z
 
 add-at : tie.Need-add-at Inv-loop μ-loop
 add-at c =
@@ -81,7 +85,7 @@ loop-less c =
           (accepted-good
           (progressOf (c .before .before .before .before .before .before .before .before .loop .progress)) _
           (c .before .before .before .before .try-line .result) (c .before .before .before .before .try-line .ensures)
-          (c .before .before .if1 .left)),
+          (rw (c .before .before .before .number .ensures) at (c .before .before .if1 .left))),
     )
 
 loop-again : tie.Need-loop-again Inv-loop μ-loop
@@ -93,7 +97,7 @@ loop-again c =
     judged-more _ _ _
     (progressOf (c .before .before .before .before .before .before .before .before .loop .progress)) _ _ _
     (c .before .before .before .before .try-line .result) a (c .before .before .before .before .try-line .ensures)
-    (c .before .before .before .before .before .before .before .before .loop .inv) (c .before .before .if1 .left)
+    (c .before .before .before .before .before .before .before .before .loop .inv) (rw (c .before .before .before .number .ensures) at (c .before .before .if1 .left))
 
 returns-2 : tie.Need-returns-2 Inv-loop μ-loop
 returns-2 c =
@@ -112,6 +116,7 @@ judge-lines-spec =
     part-read-line-end
     read-line-requires
     try-line-requires
+    number-requires
     refused-requires
     returns
     add-at

@@ -32,8 +32,11 @@ returns-2 c =
     (⊎-elim (λ x. omega arith) (⊎-elim (λ x. omega arith) (λ x. omega arith)))
     (rw q at (c .before .match .keys2))))
 
-header-refusal-requires : tie.Need-header-refusal-requires
-header-refusal-requires c κs = search needs
+header-verdict-requires : tie.Need-header-verdict-requires
+header-verdict-requires c κs = search needs
+
+number-requires : tie.Need-number-requires
+number-requires c κs = search needs
 
 refused-requires-3 : tie.Need-refused-requires-3
 refused-requires-3 c κs = search needs
@@ -42,29 +45,29 @@ returns-3 : tie.Need-returns-3
 returns-3 c =
     refused-loading _ _ _ _ _ _ (c .refused3 .ensures)
     (load-header _
-    (c .before .before .before .before .before .before .before .before .before .before .before .args .words .now)
-    (c .before .before .before .before .before .before .before .before .before .before .before .args .labels .now)
+    (c .before .before .before .before .before .before .before .before .before .before .before .before .args .words .now)
+    (c .before .before .before .before .before .before .before .before .before .before .before .before .args .labels .now)
     _ _ _ _ _ _ _
     (header-of _ _ _ _ _ _ _ _
-    (passes _ _ refl (c .before .before .before .before .before .before .before .if1 .left))
-    (c .before .before .before .before .before .before .read-line .ensures)
-    (c .before .before .before .before .first .given .1))
-    _ (c .before .before .header-refusal .ensures) (c .before .if2 .taken))
+    (passes _ _ refl (c .before .before .before .before .before .before .before .before .if1 .left))
+    (c .before .before .before .before .before .before .before .read-line .ensures)
+    (c .before .before .before .before .before .first .given .1))
+    _ (c .before .before .before .header-verdict .ensures) (rw (c .before .before .number .ensures) at (c .before .if2 .taken)))
 
-cast-t25 : tie.Need-cast-t25
-cast-t25 c =
+cast-if3 : tie.Need-cast-if3
+cast-if3 c =
     omega (
       arith,
       header-range _ _ _ _ _ _
-          ((no-header-cause _ _ _ _ (c .before .header-refusal .ensures) (c .if2 .left)) .range),
+          ((no-header-cause _ _ _ _ (c .before .before .header-verdict .ensures) (rw (c .before .number .ensures) at (c .if2 .left))) .range),
     )
 
-cast-t26 : tie.Need-cast-t26
-cast-t26 c =
+cast-t27 : tie.Need-cast-t27
+cast-t27 c =
     omega (
       arith,
       header-range _ _ _ _ _ _
-          ((no-header-cause _ _ _ _ (c .before .header-refusal .ensures) (c .if2 .left)) .range),
+          ((no-header-cause _ _ _ _ (c .before .before .header-verdict .ensures) (rw (c .before .number .ensures) at (c .if2 .left))) .range),
     )
 
 cast-blank-machine : tie.Need-cast-blank-machine
@@ -72,7 +75,7 @@ cast-blank-machine c =
     omega (
       arith,
       header-range _ _ _ _ _ _
-          ((no-header-cause _ _ _ _ (c .before .header-refusal .ensures) (c .if2 .left)) .range),
+          ((no-header-cause _ _ _ _ (c .before .before .header-verdict .ensures) (rw (c .before .number .ensures) at (c .if2 .left))) .range),
     )
 
 cast-blank-machine-2 : tie.Need-cast-blank-machine-2
@@ -80,7 +83,7 @@ cast-blank-machine-2 c =
     omega (
       arith,
       header-range _ _ _ _ _ _
-          ((no-header-cause _ _ _ _ (c .before .header-refusal .ensures) (c .if2 .left)) .range),
+          ((no-header-cause _ _ _ _ (c .before .before .header-verdict .ensures) (rw (c .before .number .ensures) at (c .if2 .left))) .range),
     )
 
 cast-blank-machine-3 : tie.Need-cast-blank-machine-3
@@ -88,7 +91,7 @@ cast-blank-machine-3 c =
     omega (
       arith,
       header-range _ _ _ _ _ _
-          ((no-header-cause _ _ _ _ (c .before .header-refusal .ensures) (c .if2 .left)) .range),
+          ((no-header-cause _ _ _ _ (c .before .before .header-verdict .ensures) (rw (c .before .number .ensures) at (c .if2 .left))) .range),
     )
 
 cast-blank-machine-4 : tie.Need-cast-blank-machine-4
@@ -96,7 +99,7 @@ cast-blank-machine-4 c =
     omega (
       arith,
       header-range _ _ _ _ _ _
-          ((no-header-cause _ _ _ _ (c .before .header-refusal .ensures) (c .if2 .left)) .range),
+          ((no-header-cause _ _ _ _ (c .before .before .header-verdict .ensures) (rw (c .before .number .ensures) at (c .if2 .left))) .range),
     )
 
 blank-machine-requires : tie.Need-blank-machine-requires
@@ -105,11 +108,11 @@ blank-machine-requires c κs = search needs
 judge-lines-requires : tie.Need-judge-lines-requires
 judge-lines-requires c κs =
     not-long
-    (c .before .before .before .before .before .before .before .before .before .before .before .args .text .now)
-    (passes _ _ refl (c .before .before .before .before .before .before .before .if1 .left))
+    (c .before .before .before .before .before .before .before .before .before .before .before .before .args .text .now)
+    (passes _ _ refl (c .before .before .before .before .before .before .before .before .if1 .left))
 
-enum-known-verdict : tie.Need-enum-known-verdict
-enum-known-verdict c = search needs
+number-requires-2 : tie.Need-number-requires-2
+number-requires-2 c κs = search needs
 
 refused-requires-4 : tie.Need-refused-requires-4
 refused-requires-4 c κs = search needs
@@ -126,45 +129,42 @@ returns-4 c =
     (c .before .before .before .before .before .before .before .before .before .before .before .before .if1 .left))
     (c .before .before .before .before .before .before .before .before .before .before .before .read-line .ensures)
     (c .before .before .before .before .before .before .before .before .before .first .given .1))
-    (no-header-cause _ _ _ _ (c .before .before .before .before .before .before .before .header-refusal .ensures)
-    (c .before .before .before .before .before .before .if2 .left))
-    _ (c .before .before .before .before .before .blank-machine .ensures)
-    (c .before .before .before .before .judge-lines .result)
-    (c .before .before .before .before .judge-lines .ensures) _ _ (c .before .before .verdict .given .1))
-
-enum-told : tie.Need-enum-told
-enum-told c = search needs
+    (no-header-cause _ _ _ _ (c .before .before .before .before .before .before .before .header-verdict .ensures)
+    (rw (c .before .before .before .before .before .before .number .ensures) at (c .before .before .before .before .before .if2 .left)))
+    _ (c .before .before .before .before .blank-machine .ensures)
+    (c .before .before .before .judge-lines .result)
+    (c .before .before .before .judge-lines .ensures) (rw (c .before .before .number2 .ensures) at (c .before .if3 .taken)))
 
 write-memory-requires : tie.Need-write-memory-requires
 write-memory-requires c κs = (
   load-lent _
-      (c .before .before .before .before .before .before .before .before .before .before .before .before .before .before .before .before .args .words .now)
-      (c .before .before .before .before .before .before .before .before .before .before .before .before .before .before .before .before .args .labels .now)
+      (c .before .before .before .before .before .before .before .before .before .before .before .before .before .before .before .before .before .args .words .now)
+      (c .before .before .before .before .before .before .before .before .before .before .before .before .before .before .before .before .before .args .labels .now)
       _ _ _ _ _ _ _
       (header-of _ _ _ _ _ _ _ _
       (passes _ _ refl
-      (c .before .before .before .before .before .before .before .before .before .before .before .before .if1 .left))
-      (c .before .before .before .before .before .before .before .before .before .before .before .read-line .ensures)
-      (c .before .before .before .before .before .before .before .before .before .first .given .1))
-      (no-header-cause _ _ _ _ (c .before .before .before .before .before .before .before .header-refusal .ensures)
-      (c .before .before .before .before .before .before .if2 .left))
+      (c .before .before .before .before .before .before .before .before .before .before .before .before .before .if1 .left))
+      (c .before .before .before .before .before .before .before .before .before .before .before .before .read-line .ensures)
+      (c .before .before .before .before .before .before .before .before .before .before .first .given .1))
+      (no-header-cause _ _ _ _ (c .before .before .before .before .before .before .before .before .header-verdict .ensures)
+      (rw (c .before .before .before .before .before .before .before .number .ensures) at (c .before .before .before .before .before .before .if2 .left)))
       _ (c .before .before .before .before .before .blank-machine .ensures)
       (c .before .before .before .before .judge-lines .result)
-      (c .before .before .before .before .judge-lines .ensures) (c .before .before .enum-told .given .1),
+      (c .before .before .before .before .judge-lines .ensures) (rw (c .before .before .before .number2 .ensures) at (c .before .before .if3 .left)),
   load-storable _
-      (c .before .before .before .before .before .before .before .before .before .before .before .before .before .before .before .before .args .words .now)
-      (c .before .before .before .before .before .before .before .before .before .before .before .before .before .before .before .before .args .labels .now)
+      (c .before .before .before .before .before .before .before .before .before .before .before .before .before .before .before .before .before .args .words .now)
+      (c .before .before .before .before .before .before .before .before .before .before .before .before .before .before .before .before .before .args .labels .now)
       _ _ _ _ _ _ _
       (header-of _ _ _ _ _ _ _ _
       (passes _ _ refl
-      (c .before .before .before .before .before .before .before .before .before .before .before .before .if1 .left))
-      (c .before .before .before .before .before .before .before .before .before .before .before .read-line .ensures)
-      (c .before .before .before .before .before .before .before .before .before .first .given .1))
-      (no-header-cause _ _ _ _ (c .before .before .before .before .before .before .before .header-refusal .ensures)
-      (c .before .before .before .before .before .before .if2 .left))
+      (c .before .before .before .before .before .before .before .before .before .before .before .before .before .if1 .left))
+      (c .before .before .before .before .before .before .before .before .before .before .before .before .read-line .ensures)
+      (c .before .before .before .before .before .before .before .before .before .before .first .given .1))
+      (no-header-cause _ _ _ _ (c .before .before .before .before .before .before .before .before .header-verdict .ensures)
+      (rw (c .before .before .before .before .before .before .before .number .ensures) at (c .before .before .before .before .before .before .if2 .left)))
       _ (c .before .before .before .before .before .blank-machine .ensures)
       (c .before .before .before .before .judge-lines .result)
-      (c .before .before .before .before .judge-lines .ensures) (c .before .before .enum-told .given .1),
+      (c .before .before .before .before .judge-lines .ensures) (rw (c .before .before .before .number2 .ensures) at (c .before .before .if3 .left)),
 )
 
 same-length : tie.Need-same-length
@@ -176,22 +176,22 @@ same-length-2 c = search needs
 returns-5 : tie.Need-returns-5
 returns-5 c =
     load-accepted _
-    (c .before .before .before .before .before .before .before .before .before .before .before .before .before .before .before .before .before .before .before .before .before .args .words .now)
-    (c .before .before .before .before .before .before .before .before .before .before .before .before .before .before .before .before .before .before .before .before .before .args .labels .now)
+    (c .before .before .before .before .before .before .before .before .before .before .before .before .before .before .before .before .before .before .before .before .before .before .before .args .words .now)
+    (c .before .before .before .before .before .before .before .before .before .before .before .before .before .before .before .before .before .before .before .before .before .before .before .args .labels .now)
     _ _ _ _ _ _ _
     (header-of _ _ _ _ _ _ _ _
     (passes _ _ refl
-    (c .before .before .before .before .before .before .before .before .before .before .before .before .before .before .before .before .before .if1 .left))
-    (c .before .before .before .before .before .before .before .before .before .before .before .before .before .before .before .before .read-line .ensures)
-    (c .before .before .before .before .before .before .before .before .before .before .before .before .before .before .first .given .1))
+    (c .before .before .before .before .before .before .before .before .before .before .before .before .before .before .before .before .before .before .before .if1 .left))
+    (c .before .before .before .before .before .before .before .before .before .before .before .before .before .before .before .before .before .before .read-line .ensures)
+    (c .before .before .before .before .before .before .before .before .before .before .before .before .before .before .before .before .first .given .1))
     (no-header-cause _ _ _ _
-    (c .before .before .before .before .before .before .before .before .before .before .before .before .header-refusal .ensures)
-    (c .before .before .before .before .before .before .before .before .before .before .before .if2 .left))
-    _ (c .before .before .before .before .before .before .before .before .before .before .blank-machine .ensures)
-    (c .before .before .before .before .before .before .before .before .before .judge-lines .result)
-    (c .before .before .before .before .before .before .before .before .before .judge-lines .ensures)
-    (c .before .before .before .before .before .before .before .enum-told .given .1) _ _
-    (c .before .before .before .before .write-memory .ensures)
+    (c .before .before .before .before .before .before .before .before .before .before .before .before .before .before .header-verdict .ensures)
+    (rw (c .before .before .before .before .before .before .before .before .before .before .before .before .before .number .ensures) at (c .before .before .before .before .before .before .before .before .before .before .before .before .if2 .left)))
+    _ (c .before .before .before .before .before .before .before .before .before .before .before .blank-machine .ensures)
+    (c .before .before .before .before .before .before .before .before .before .before .judge-lines .result)
+    (c .before .before .before .before .before .before .before .before .before .before .judge-lines .ensures)
+    (rw (c .before .before .before .before .before .before .before .before .before .number2 .ensures) at (c .before .before .before .before .before .before .before .before .if3 .left)) _ _
+    (c .before .before .before .before .before .write-memory .ensures)
 
 pub load-spec : {M : Type 1} → statement M
 load-spec =
@@ -203,21 +203,21 @@ load-spec =
     enum-known-first
     refused-requires-2
     returns-2
-    header-refusal-requires
+    header-verdict-requires
+    number-requires
     refused-requires-3
     returns-3
-    cast-t25
-    cast-t26
+    cast-if3
+    cast-t27
     cast-blank-machine
     cast-blank-machine-2
     cast-blank-machine-3
     cast-blank-machine-4
     blank-machine-requires
     judge-lines-requires
-    enum-known-verdict
+    number-requires-2
     refused-requires-4
     returns-4
-    enum-told
     write-memory-requires
     same-length
     same-length-2

@@ -20,43 +20,46 @@ least-of-requires c κs = search needs
 cast-rising : tie.Need-cast-rising
 cast-rising c = search needs
 
-line-refusal-requires : tie.Need-line-refusal-requires
-line-refusal-requires c κs = search needs
+line-verdict-requires : tie.Need-line-verdict-requires
+line-verdict-requires c κs = search needs
+
+number-requires : tie.Need-number-requires
+number-requires c κs = search needs
 
 with-register-requires : tie.Need-with-register-requires
 with-register-requires c κs =
-    sym (c .before .before .before .before .entry-in-range .ensures) ∙ no-cause _ _ _ _
-    (c .before .line-refusal .ensures) (c .if1 .taken)
+    sym (c .before .before .before .before .before .entry-in-range .ensures) ∙ no-cause _ _ _ _
+    (c .before .before .line-verdict .ensures) (sym (c .before .number .ensures) ∙ c .if1 .taken)
 
-cast-t14 : tie.Need-cast-t14
-cast-t14 c =
+cast-t15 : tie.Need-cast-t15
+cast-t15 c =
     omega (
       arith,
       entry-range _ _ _ _
-          (sym (c .before .before .before .before .before .entry-in-range .ensures) ∙ no-cause _ _ _ _
-          (c .before .before .line-refusal .ensures) (c .before .if1 .taken)),
+          (sym (c .before .before .before .before .before .before .entry-in-range .ensures) ∙ no-cause _ _ _ _
+          (c .before .before .before .line-verdict .ensures) (sym (c .before .before .number .ensures) ∙ c .before .if1 .taken)),
     )
 
-add-t15 : tie.Need-add-t15
-add-t15 c =
+add-t16 : tie.Need-add-t16
+add-t16 c =
     omega (
       arith,
       entry-range _ _ _ _
-          (sym (c .before .before .before .before .before .entry-in-range .ensures) ∙ no-cause _ _ _ _
-          (c .before .before .line-refusal .ensures) (c .before .if1 .taken)),
+          (sym (c .before .before .before .before .before .before .entry-in-range .ensures) ∙ no-cause _ _ _ _
+          (c .before .before .before .line-verdict .ensures) (sym (c .before .before .number .ensures) ∙ c .before .if1 .taken)),
     )
 
 returns : tie.Need-returns
 unfolding afterwards
 returns c =
     λ n ls. taken _ _ n _
-    (register-tried (progressOf (c .before .before .before .before .before .before .before .args .progress)) n ls _
-    _ _ _ _ _ (c .before .before .before .before .before .entry-in-range .ensures)
-    (c .before .before .before .before .least-of .ensures) (c .before .before .line-refusal .ensures))
-    (c .before .if1 .taken) ∙ ap
+    (register-tried (progressOf (c .before .before .before .before .before .before .before .before .args .progress)) n ls _
+    _ _ _ _ _ (c .before .before .before .before .before .before .entry-in-range .ensures)
+    (c .before .before .before .before .before .least-of .ensures) (c .before .before .before .line-verdict .ensures))
+    (sym (c .before .before .number .ensures) ∙ c .before .if1 .taken) ∙ ap
     (λ (m : Machine). judge
     (record
-    { machine = m; kind = 2; least = c .before .before .before .before .before .before .before .args .k + 1 })
+    { machine = m; kind = 2; least = c .before .before .before .before .before .before .before .before .args .k + 1 })
     (n + 1) ls)
     (sym (c .with-register .ensures))
 
@@ -64,10 +67,10 @@ returns-2 : tie.Need-returns-2
 unfolding afterwards
 returns-2 c =
     λ n ls. left _ _ _ n _
-    (register-tried (progressOf (c .before .before .before .before .before .before .args .progress)) n ls _ _ _ _ _
-    _ (c .before .before .before .before .entry-in-range .ensures) (c .before .before .before .least-of .ensures)
-    (c .before .line-refusal .ensures))
-    (c .if1 .left)
+    (register-tried (progressOf (c .before .before .before .before .before .before .before .args .progress)) n ls _ _ _ _ _
+    _ (c .before .before .before .before .before .entry-in-range .ensures) (c .before .before .before .before .least-of .ensures)
+    (c .before .before .line-verdict .ensures))
+    (λ e. c .if1 .left (c .before .number .ensures ∙ e))
 
 pub try-register-spec : {M : Type 1} → statement M
 try-register-spec =
@@ -76,9 +79,9 @@ try-register-spec =
     entry-in-range-requires
     least-of-requires
     cast-rising
-    line-refusal-requires
+    line-verdict-requires number-requires
     with-register-requires
-    cast-t14
-    add-t15
+    cast-t15
+    add-t16
     returns
     returns-2)

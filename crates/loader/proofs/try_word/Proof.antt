@@ -17,44 +17,47 @@ least-of-requires c κs = search needs
 cast-rising : tie.Need-cast-rising
 cast-rising c = search needs
 
-line-refusal-requires : tie.Need-line-refusal-requires
-line-refusal-requires c κs = search needs
+line-verdict-requires : tie.Need-line-verdict-requires
+line-verdict-requires c κs = search needs
 
-cast-t13 : tie.Need-cast-t13
-cast-t13 c =
+number-requires : tie.Need-number-requires
+number-requires c κs = search needs
+
+cast-t14 : tie.Need-cast-t14
+cast-t14 c =
     omega (
       arith,
       entry-range _ _ _ _
-          (sym (c .before .before .before .before .entry-in-range .ensures) ∙ no-cause _ _ _ _
-          (c .before .line-refusal .ensures) (c .if1 .taken)),
+          (sym (c .before .before .before .before .before .entry-in-range .ensures) ∙ no-cause _ _ _ _
+          (c .before .before .line-verdict .ensures) (sym (c .before .number .ensures) ∙ c .if1 .taken)),
     )
 
-add-t14 : tie.Need-add-t14
-add-t14 c =
+add-t15 : tie.Need-add-t15
+add-t15 c =
     omega (
       arith,
       entry-range _ _ _ _
-          (sym (c .before .before .before .before .entry-in-range .ensures) ∙ no-cause _ _ _ _
-          (c .before .line-refusal .ensures) (c .if1 .taken)),
+          (sym (c .before .before .before .before .before .entry-in-range .ensures) ∙ no-cause _ _ _ _
+          (c .before .before .line-verdict .ensures) (sym (c .before .number .ensures) ∙ c .if1 .taken)),
     )
 
 returns : tie.Need-returns
 unfolding afterwards
 returns c =
     λ n ls. taken _ _ n _
-    (word-tried (progressOf (c .before .before .before .before .before .before .args .progress)) n ls _ _ _ _ _ _
-    (c .before .before .before .before .entry-in-range .ensures) (c .before .before .before .least-of .ensures)
-    (c .before .line-refusal .ensures))
-    (c .if1 .taken)
+    (word-tried (progressOf (c .before .before .before .before .before .before .before .args .progress)) n ls _ _ _ _ _ _
+    (c .before .before .before .before .before .entry-in-range .ensures) (c .before .before .before .before .least-of .ensures)
+    (c .before .before .line-verdict .ensures))
+    (sym (c .before .number .ensures) ∙ c .if1 .taken)
 
 returns-2 : tie.Need-returns-2
 unfolding afterwards
 returns-2 c =
     λ n ls. left _ _ _ n _
-    (word-tried (progressOf (c .before .before .before .before .before .before .args .progress)) n ls _ _ _ _ _ _
-    (c .before .before .before .before .entry-in-range .ensures) (c .before .before .before .least-of .ensures)
-    (c .before .line-refusal .ensures))
-    (c .if1 .left)
+    (word-tried (progressOf (c .before .before .before .before .before .before .before .args .progress)) n ls _ _ _ _ _ _
+    (c .before .before .before .before .before .entry-in-range .ensures) (c .before .before .before .before .least-of .ensures)
+    (c .before .before .line-verdict .ensures))
+    (λ e. c .if1 .left (c .before .number .ensures ∙ e))
 
 pub try-word-spec : {M : Type 1} → statement M
 try-word-spec =
@@ -63,8 +66,8 @@ try-word-spec =
     entry-in-range-requires
     least-of-requires
     cast-rising
-    line-refusal-requires
-    cast-t13
-    add-t14
+    line-verdict-requires number-requires
+    cast-t14
+    add-t15
     returns
     returns-2)

@@ -1,4 +1,4 @@
--- `loader::header_refusal` meets its contract: the causes of an M line, in their order.
+-- `loader::header_verdict` meets its contract: the causes of an M line, in their order.
 -- Assumes nothing.
 use mathlib.Core.Bool.{_&&_}
 use native.Mathlib.Omega.{arith}
@@ -8,8 +8,8 @@ use borrow.Author.Tests.{not-true, not-false}
 use Rattle.loader.proofs.Answer.{fails, passes}
 use Rattle.loader.proofs.Judging.{header-range}
 use Rattle.loader.specs.Load.{headerNumber}
-use Rattle.loader.proofs.header_refusal.Statement.{statement}
-use Rattle.loader.proofs.header_refusal.Tie as tie
+use Rattle.loader.proofs.header_verdict.Statement.{statement}
+use Rattle.loader.proofs.header_verdict.Tie as tie
 
 header-in-range-requires : tie.Need-header-in-range-requires
 header-in-range-requires c κs = search needs
@@ -70,8 +70,8 @@ returns-4 c =
           (c .if3 .left),
     )
 
-pub header-refusal-spec : {M : Type 1} → statement M
-header-refusal-spec =
+pub header-verdict-spec : {M : Type 1} → statement M
+header-verdict-spec =
     tie.close
     (tie.spec
     header-in-range-requires

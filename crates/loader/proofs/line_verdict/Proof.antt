@@ -1,9 +1,9 @@
--- `loader::line_refusal` meets its contract: the causes of a later line, in their order.
+-- `loader::line_verdict` meets its contract: the causes of a later line, in their order.
 -- Assumes nothing.
 use borrow.Author.Tests.{not-true, not-false}
 use Rattle.loader.specs.Load.{lineNumber}
-use Rattle.loader.proofs.line_refusal.Statement.{statement}
-use Rattle.loader.proofs.line_refusal.Tie as tie
+use Rattle.loader.proofs.line_verdict.Statement.{statement}
+use Rattle.loader.proofs.line_verdict.Tie as tie
 
 returns : tie.Need-returns
 unfolding lineNumber
@@ -40,5 +40,5 @@ returns-4 c =
           (c .before .before .before .args .rising) (c .if3 .left),
     )
 
-pub line-refusal-spec : {M : Type 1} → statement M
-line-refusal-spec = tie.close (tie.spec returns returns-2 returns-3 returns-4)
+pub line-verdict-spec : {M : Type 1} → statement M
+line-verdict-spec = tie.close (tie.spec returns returns-2 returns-3 returns-4)
