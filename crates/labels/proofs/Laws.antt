@@ -23,7 +23,7 @@ unfolding confidentiality
 confidentiality-lt n l = mod-lt l (pow-pos n)
 
 -- The integrity of a label over n principals is a set of n principals.
-integrity-lt : (n l : ℕ) → l < 2 ^ (n + n) → integrity n l < 2 ^ n
+pub integrity-lt : (n l : ℕ) → l < 2 ^ (n + n) → integrity n l < 2 ^ n
 unfolding integrity
 integrity-lt n l h = shr-lt n n h
 
@@ -173,7 +173,7 @@ meet-greatest p q = record { holds = rw (flows-meet, p .holds, q .holds) }
 -- ---- the lowest and the highest label
 
 -- Every set of n principals is a subset of the set of all n.
-subset-all : (n x : ℕ) → x < 2 ^ n → subset x (2 ^ n - 1) ≡ true
+pub subset-all : (n x : ℕ) → x < 2 ^ n → subset x (2 ^ n - 1) ≡ true
 unfolding subset
 subset-all n x h = eq-eqb (bitAnd x (2 ^ n - 1)) x (and-mask x n ∙ mod-eq-of-lt h)
 

@@ -1,13 +1,13 @@
 -- Sets of principals as numbers: x is a subset of y exactly when each bit of x is at most the same bit of y. Through
 -- that bridge the laws of sets are laws of orders, minima and maxima. Assumes nothing.
-use Prim.Native.Nat.{ℕ, _+_, _*_, _/_, _%_, _^_, _≤_, _<_, min, max}
+use Prim.Native.Nat.{ℕ, zero, suc, _+_, _*_, _/_, _%_, _^_, _≤_, _<_, min, max}
 use mathlib.Core.Path.{_≡_, refl, sym, ap, ap₂, _∙_}
 use mathlib.Core.Bool.{Bool, true, false, _&&_, and-eq-true-iff}
 use native.Mathlib.Nat.{mod-lt, min-eq-left, div-one, div-add-mod'}
 use native.Mathlib.Omega.{arith}
 use lib.Arith.{bin-ind, digits-mod}
-use lib.Bits.{bitAnd, bitOr, and-step, or-step, and-shr, or-shr, and-comm}
-use lib.Dec.{lit<}
+use lib.Bits.{bitAnd, bitOr, bitXor, differ, and-step, or-step, xor-step, and-shr, or-shr, xor-shr, and-comm}
+use lib.Dec.{lit<, eqb}
 use lib.Pow.{shr-shr}
 use borrow.Author.Tests.{eqb-true, eq-eqb}
 use Rattle.labels.specs.Principals.{subset}
@@ -40,6 +40,24 @@ bit-and = bit-op bitAnd min and-shr and-step (λ x y h l. omega arith)
 -- Bits of two sets together.
 bit-or : (k a b : ℕ) → bit k (bitOr a b) ≡ max (bit k a) (bit k b)
 bit-or = bit-op bitOr max or-shr or-step (λ x y h l. omega arith)
+
+-- Of two bits, whether they differ.
+differ-bits : (x y : ℕ) → differ x y + min x y * 2 ≡ x + y
+differ-bits zero y = omega arith
+differ-bits (suc x) zero = omega arith
+differ-bits (suc x) (suc y) = omega (arith, differ-bits x y)
+
+-- Bits of what one of two sets has alone: with twice what they share, all that they have.
+bit-xor : (k a b : ℕ) → bit k (bitXor a b) + min (bit k a) (bit k b) * 2 ≡ bit k a + bit k b
+bit-xor k a b =
+    ap (λ (x : ℕ). x + min (bit k a) (bit k b) * 2)
+    (bit-op bitXor differ xor-shr xor-step (λ x y h l. omega (arith, differ-bits x y)) k a b)
+    ∙ differ-bits (bit k a) (bit k b)
+
+-- A bit is 0 or 1.
+bit-lt : (k x : ℕ) → bit k x < 2
+unfolding bit
+bit-lt k x = mod-lt (x / 2 ^ k) (lit< tt)
 
 -- The bits of a half are the bits from the second on.
 bit-half : (k x : ℕ) → bit k (x / 2) ≡ bit (1 + k) x
@@ -106,3 +124,78 @@ subset-and x y z = conjunction z (bitAnd x y) z x z y (λ k. omega (arith, bit-a
 pub subset-or : (x y z : ℕ) → subset (bitOr x y) z ≡ (subset x z && subset y z)
 unfolding Conjunction
 subset-or x y z = conjunction (bitOr x y) z x z y z (λ k. omega (arith, bit-or k x y))
+
+-- ---- a set turned within a larger one
+
+-- Sets with the same bits are one.
+same-bits : (x y : ℕ) → ((k : ℕ) → bit k x ≡ bit k y) → x ≡ y
+same-bits x y h =
+    subset-antisym x y (by-bits x y (λ k. omega (arith, h k))) (by-bits y x (λ k. omega (arith, h k)))
+
+-- The empty set has no bit.
+bit-none : (k : ℕ) → bit k 0 ≡ 0
+bit-none k = omega (arith, bit-and k 0 0, bit-xor k 0 0)
+
+-- x has nothing of what y lacks exactly when it is a subset of y.
+pub without : (m x y : ℕ) → subset x m ≡ true → eqb (bitAnd (bitXor y m) x) 0 ≡ subset x y
+without m x y h =
+    same-truth (eqb (bitAnd (bitXor y m) x) 0) (subset x y)
+    (λ e. by-bits x y
+    (λ k. omega (
+      arith,
+      bit-and k (bitXor y m) x,
+      bit-xor k y m,
+      bits x m h k,
+      ap (bit k) (eqb-true (bitAnd (bitXor y m) x) 0 e),
+      bit-none k,
+      bit-lt k m,
+      bit-lt k y,
+      bit-lt k x,
+    )))
+    (λ p. eq-eqb (bitAnd (bitXor y m) x) 0
+    (same-bits (bitAnd (bitXor y m) x) 0
+    (λ k. omega (
+      arith,
+      bit-and k (bitXor y m) x,
+      bit-xor k y m,
+      bits x m h k,
+      bits x y p k,
+      bit-none k,
+      bit-lt k m,
+      bit-lt k y,
+      bit-lt k x,
+    ))))
+
+-- What neither of two sets lacks is what they share.
+pub lacked-by-neither : (m x y : ℕ) → subset x m ≡ true → subset y m ≡ true
+    → bitXor (bitOr (bitXor x m) (bitXor y m)) m ≡ bitAnd x y
+lacked-by-neither m x y h l =
+    same-bits (bitXor (bitOr (bitXor x m) (bitXor y m)) m) (bitAnd x y)
+    (λ k. omega (
+      arith,
+      bit-xor k (bitOr (bitXor x m) (bitXor y m)) m,
+      bit-or k (bitXor x m) (bitXor y m),
+      bit-xor k x m,
+      bit-xor k y m,
+      bit-and k x y,
+      bits x m h k,
+      bits y m l k,
+      bit-lt k m,
+    ))
+
+-- What not both of two sets lack is what they have together.
+pub lacked-by-both : (m x y : ℕ) → subset x m ≡ true → subset y m ≡ true
+    → bitXor (bitAnd (bitXor x m) (bitXor y m)) m ≡ bitOr x y
+lacked-by-both m x y h l =
+    same-bits (bitXor (bitAnd (bitXor x m) (bitXor y m)) m) (bitOr x y)
+    (λ k. omega (
+      arith,
+      bit-xor k (bitAnd (bitXor x m) (bitXor y m)) m,
+      bit-and k (bitXor x m) (bitXor y m),
+      bit-xor k x m,
+      bit-xor k y m,
+      bit-or k x y,
+      bits x m h k,
+      bits y m l k,
+      bit-lt k m,
+    ))

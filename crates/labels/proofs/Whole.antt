@@ -1,36 +1,106 @@
--- The definitions over whole numbers: with one mask for each half of a label, flow, join and meet take a handful of bit
--- operations on whole labels. The code does them so. Assumes nothing.
+-- The definitions over whole numbers: once the integrity is turned, flow, join and meet take a handful of bit operations on
+-- whole labels. The code does them so. Assumes nothing.
 use Prim.Native.Nat.{ℕ, _+_, _-_, _*_, _/_, _%_, _^_, _<_}
 use mathlib.Core.Path.{_≡_, sym, ap, ap₂, _∙_}
 use mathlib.Core.Bool.{_&&_, and-eq-true-iff}
-use native.Mathlib.Nat.{mod-lt}
-use lib.Bits.{bitAnd, bitOr, and-lt, or-lt, and-high, and-mask, or-shifted, and-shr, or-shr, and-mod, or-mod, and-comm}
+use native.Mathlib.Omega.{arith}
+use lib.Bits.{bitAnd, bitOr, bitXor, xor-zero-r, and-shr, or-shr, xor-shr, and-mod, or-mod, xor-mod, and-comm}
 use lib.Dec.{eqb}
-use lib.Pow.{pow-pos, shr-mod}
+use lib.Pow.{pow-pos, ones-lt}
 use borrow.Author.Tests.{eqb-true, eq-eqb}
-use Rattle.labels.specs.Principals.{subset, label, integrity, confidentiality, flows, join, meet}
-use Rattle.labels.proofs.Subset.{same-truth}
-use Rattle.labels.proofs.Laws.{integrity-label, confidentiality-label, label-halves, confidentiality-lt}
+use Rattle.labels.specs.Principals.{subset, label, integrity, confidentiality, flows, join, meet, lowest, highest}
+use Rattle.labels.proofs.Subset.{same-truth, without, lacked-by-neither, lacked-by-both}
+use Rattle.labels.proofs.Laws.{integrity-label, confidentiality-label, label-halves, integrity-lt, confidentiality-lt, subset-all}
 
--- The integrity of x beside the confidentiality of y.
-masked : (n x y : ℕ) → x < 2 ^ (n + n)
-    → bitOr (bitAnd x (2 ^ (n + n) - 2 ^ n)) (bitAnd y (2 ^ n - 1)) ≡ label n (integrity n x) (confidentiality n y)
-unfolding label integrity confidentiality
-masked n x y h =
-    ap₂ bitOr (and-high x n n ∙ ap (λ (q : ℕ). q * 2 ^ n) (shr-mod n n h)) (and-mask y n)
-    ∙ or-shifted (x / 2 ^ n) n (y % 2 ^ n) (mod-lt y (pow-pos n))
+-- ---- the halves of a label
 
--- The join of whole labels.
+-- An operation on bits works on the integrity alone.
+integrity-op : (op : ℕ → ℕ → ℕ) → ((a b k : ℕ) → op a b / 2 ^ k ≡ op (a / 2 ^ k) (b / 2 ^ k)) → (n a b : ℕ)
+    → integrity n (op a b) ≡ op (integrity n a) (integrity n b)
+unfolding integrity
+integrity-op op half n a b = half a b n
+
+-- And on the confidentiality alone.
+confidentiality-op : (op : ℕ → ℕ → ℕ) → ((a b k : ℕ) → op a b % 2 ^ k ≡ op (a % 2 ^ k) (b % 2 ^ k)) → (n a b : ℕ)
+    → confidentiality n (op a b) ≡ op (confidentiality n a) (confidentiality n b)
+unfolding confidentiality
+confidentiality-op op rest n a b = rest a b n
+
+-- ---- a label that is turned by the lowest or the highest
+
+-- The integrity turned.
+integrity-turned : (n l : ℕ) → integrity n (bitXor l (lowest n)) ≡ bitXor (integrity n l) (2 ^ n - 1)
+unfolding lowest
+integrity-turned n l =
+    integrity-op bitXor xor-shr n l (label n (2 ^ n - 1) 0)
+    ∙ ap (bitXor (integrity n l)) (integrity-label n (2 ^ n - 1) 0 (pow-pos n))
+
+-- The confidentiality is left.
+confidentiality-kept : (n l : ℕ) → confidentiality n (bitXor l (lowest n)) ≡ confidentiality n l
+unfolding lowest
+confidentiality-kept n l =
+    confidentiality-op bitXor xor-mod n l (label n (2 ^ n - 1) 0)
+    ∙ ap (bitXor (confidentiality n l)) (confidentiality-label n (2 ^ n - 1) 0 (pow-pos n))
+    ∙ xor-zero-r (confidentiality n l)
+
+-- The integrity is left.
+integrity-kept : (n l : ℕ) → integrity n (bitXor l (highest n)) ≡ integrity n l
+unfolding highest
+integrity-kept n l =
+    integrity-op bitXor xor-shr n l (label n 0 (2 ^ n - 1))
+    ∙ ap (bitXor (integrity n l)) (integrity-label n 0 (2 ^ n - 1) (ones-lt n))
+    ∙ xor-zero-r (integrity n l)
+
+-- The confidentiality turned.
+confidentiality-turned : (n l : ℕ) → confidentiality n (bitXor l (highest n)) ≡ bitXor (confidentiality n l) (2 ^ n - 1)
+unfolding highest
+confidentiality-turned n l =
+    confidentiality-op bitXor xor-mod n l (label n 0 (2 ^ n - 1))
+    ∙ ap (bitXor (confidentiality n l)) (confidentiality-label n 0 (2 ^ n - 1) (ones-lt n))
+
+-- ---- join and meet
+
+-- The join: the restrictions of both labels.
 pub whole-join : (n a b : ℕ) → a < 2 ^ (n + n) → b < 2 ^ (n + n)
-    → bitOr (bitAnd (bitAnd a b) (2 ^ (n + n) - 2 ^ n)) (bitAnd (bitOr a b) (2 ^ n - 1)) ≡ join n a b
-unfolding join integrity confidentiality
-whole-join n a b h k = masked n (bitAnd a b) (bitOr a b) (and-lt (n + n) a b h k) ∙ ap₂ (label n) (and-shr a b n) (or-mod a b n)
+    → bitXor (bitOr (bitXor a (lowest n)) (bitXor b (lowest n))) (lowest n) ≡ join n a b
+unfolding join
+whole-join n a b h k =
+    let x = bitOr (bitXor a (lowest n)) (bitXor b (lowest n)) in
+    let i : integrity n x ≡ bitOr (bitXor (integrity n a) (2 ^ n - 1)) (bitXor (integrity n b) (2 ^ n - 1)) =
+    integrity-op bitOr or-shr n (bitXor a (lowest n)) (bitXor b (lowest n))
+    ∙ ap₂ bitOr (integrity-turned n a) (integrity-turned n b) in
+    let c : confidentiality n x ≡ bitOr (confidentiality n a) (confidentiality n b) =
+    confidentiality-op bitOr or-mod n (bitXor a (lowest n)) (bitXor b (lowest n))
+    ∙ ap₂ bitOr (confidentiality-kept n a) (confidentiality-kept n b) in
+    sym (label-halves n (bitXor x (lowest n)))
+    ∙ ap₂ (label n)
+    (integrity-turned n x
+    ∙ ap (λ (y : ℕ). bitXor y (2 ^ n - 1)) i
+    ∙ lacked-by-neither (2 ^ n - 1) (integrity n a) (integrity n b) (subset-all n (integrity n a) (integrity-lt n a h))
+    (subset-all n (integrity n b) (integrity-lt n b k)))
+    (confidentiality-kept n x ∙ c)
 
--- The meet of whole labels.
+-- The meet: the restrictions that both labels have.
 pub whole-meet : (n a b : ℕ) → a < 2 ^ (n + n) → b < 2 ^ (n + n)
-    → bitOr (bitAnd (bitOr a b) (2 ^ (n + n) - 2 ^ n)) (bitAnd (bitAnd a b) (2 ^ n - 1)) ≡ meet n a b
-unfolding meet integrity confidentiality
-whole-meet n a b h k = masked n (bitOr a b) (bitAnd a b) (or-lt (n + n) a b h k) ∙ ap₂ (label n) (or-shr a b n) (and-mod a b n)
+    → bitXor (bitAnd (bitXor a (lowest n)) (bitXor b (lowest n))) (lowest n) ≡ meet n a b
+unfolding meet
+whole-meet n a b h k =
+    let x = bitAnd (bitXor a (lowest n)) (bitXor b (lowest n)) in
+    let i : integrity n x ≡ bitAnd (bitXor (integrity n a) (2 ^ n - 1)) (bitXor (integrity n b) (2 ^ n - 1)) =
+    integrity-op bitAnd and-shr n (bitXor a (lowest n)) (bitXor b (lowest n))
+    ∙ ap₂ bitAnd (integrity-turned n a) (integrity-turned n b) in
+    let c : confidentiality n x ≡ bitAnd (confidentiality n a) (confidentiality n b) =
+    confidentiality-op bitAnd and-mod n (bitXor a (lowest n)) (bitXor b (lowest n))
+    ∙ ap₂ bitAnd (confidentiality-kept n a) (confidentiality-kept n b) in
+    sym (label-halves n (bitXor x (lowest n)))
+    ∙ ap₂ (label n)
+    (integrity-turned n x
+    ∙ ap (λ (y : ℕ). bitXor y (2 ^ n - 1)) i
+    ∙ lacked-by-both (2 ^ n - 1) (integrity n a) (integrity n b) (subset-all n (integrity n a) (integrity-lt n a h))
+    (subset-all n (integrity n b) (integrity-lt n b k)))
+    (confidentiality-kept n x ∙ c)
+
+-- ---- flow
 
 -- Two labels are equal exactly when their halves are.
 eqb-label : (n i c j d : ℕ) → c < 2 ^ n → d < 2 ^ n → eqb (label n i c) (label n j d) ≡ (eqb i j && eqb c d)
@@ -42,13 +112,25 @@ eqb-label n i c j d h k =
     (λ e. let q = and-eq-true-iff (eqb i j) (eqb c d) .0 e in
     eq-eqb (label n i c) (label n j d) (ap₂ (label n) (eqb-true i j (q .0)) (eqb-true c d (q .1))))
 
--- Flow of whole labels: what they share is the integrity of the second beside the confidentiality of the first.
-pub whole-flows : (n a b : ℕ) → b < 2 ^ (n + n)
-    → eqb (bitAnd a b) (bitOr (bitAnd b (2 ^ (n + n) - 2 ^ n)) (bitAnd a (2 ^ n - 1))) ≡ flows n a b
-unfolding flows subset
+-- No restriction in either half is none at all.
+no-restriction : (n : ℕ) → 0 ≡ label n 0 0
+unfolding label
+no-restriction n = omega arith
+
+-- Flow: the first label has no restriction that the second lacks.
+pub whole-flows : (n a b : ℕ) → b < 2 ^ (n + n) → eqb (bitAnd (bitXor a (lowest n)) (bitXor b (highest n))) 0 ≡ flows n a b
+unfolding flows
 whole-flows n a b h =
-    ap₂ eqb (sym (label-halves n (bitAnd a b))) (masked n b a h)
-    ∙ eqb-label n (integrity n (bitAnd a b)) (confidentiality n (bitAnd a b)) (integrity n b) (confidentiality n a)
-    (confidentiality-lt n (bitAnd a b)) (confidentiality-lt n a)
-    ∙ ap₂ (λ (x y : ℕ). eqb x (integrity n b) && eqb y (confidentiality n a))
-    (unfold integrity in and-shr a b n ∙ and-comm (a / 2 ^ n) (b / 2 ^ n)) (unfold confidentiality in and-mod a b n)
+    let x = bitAnd (bitXor a (lowest n)) (bitXor b (highest n)) in
+    let i : integrity n x ≡ bitAnd (bitXor (integrity n a) (2 ^ n - 1)) (integrity n b) =
+    integrity-op bitAnd and-shr n (bitXor a (lowest n)) (bitXor b (highest n))
+    ∙ ap₂ bitAnd (integrity-turned n a) (integrity-kept n b) in
+    let c : confidentiality n x ≡ bitAnd (bitXor (confidentiality n b) (2 ^ n - 1)) (confidentiality n a) =
+    confidentiality-op bitAnd and-mod n (bitXor a (lowest n)) (bitXor b (highest n))
+    ∙ ap₂ bitAnd (confidentiality-kept n a) (confidentiality-turned n b)
+    ∙ and-comm (confidentiality n a) (bitXor (confidentiality n b) (2 ^ n - 1)) in
+    ap₂ eqb (sym (label-halves n x)) (no-restriction n)
+    ∙ eqb-label n (integrity n x) (confidentiality n x) 0 0 (confidentiality-lt n x) (pow-pos n)
+    ∙ ap₂ (λ (u v : ℕ). eqb u 0 && eqb v 0) i c
+    ∙ ap₂ _&&_ (without (2 ^ n - 1) (integrity n b) (integrity n a) (subset-all n (integrity n b) (integrity-lt n b h)))
+    (without (2 ^ n - 1) (confidentiality n a) (confidentiality n b) (subset-all n (confidentiality n a) (confidentiality-lt n a)))

@@ -1,6 +1,9 @@
 // Labels: who vouches for a value (integrity) and who must not learn it (confidentiality), with the rules by which
 // they flow. A label is a byte, its integrity in the high half and its confidentiality in the low half, one bit for
 // each principal. Every rule works on whole bytes, with neither branch nor table. Usable without the machine.
+//
+// Flow, join and meet turn the bits of the integrity first. What is then set is a restriction, in either half: a join has
+// those of both labels, a meet those that they share, and a label flows to one that has all of its own.
 ghost use mathlib.Core.Path.{_≡_};
 ghost use lib.Dec.{eqb};
 ghost use Rattle.labels.specs.Label.{flows, join, meet, reflection, uncompromised, validPair, lowest, highest, mayRaise, mayRelabel};
@@ -23,21 +26,21 @@ impl Label {
     pub fn flows_to(self, to: Label) -> bool
         ensures { λ r. ⌜ r ≡ flows (self .0) (to .0) ⌝ }
     {
-        self.0 & to.0 == (to.0 & INTEGRITY) | (self.0 & CONFIDENTIALITY)
+        (self.0 ^ INTEGRITY) & (to.0 ^ CONFIDENTIALITY) == 0
     }
 
     // The lowest label that both this one and `other` flow to.
     pub fn join(self, other: Label) -> Label
         ensures { λ r. ⌜ r .0 ≡ join (self .0) (other .0) ⌝ }
     {
-        Label((self.0 & other.0 & INTEGRITY) | ((self.0 | other.0) & CONFIDENTIALITY))
+        Label(((self.0 ^ INTEGRITY) | (other.0 ^ INTEGRITY)) ^ INTEGRITY)
     }
 
     // The highest label that flows to both this one and `other`.
     pub fn meet(self, other: Label) -> Label
         ensures { λ r. ⌜ r .0 ≡ meet (self .0) (other .0) ⌝ }
     {
-        Label(((self.0 | other.0) & INTEGRITY) | (self.0 & other.0 & CONFIDENTIALITY))
+        Label(((self.0 ^ INTEGRITY) & (other.0 ^ INTEGRITY)) ^ INTEGRITY)
     }
 
     // Integrity and confidentiality exchanged.
