@@ -1,15 +1,9 @@
 // A machine record in a lent buffer of 64-bit words, one number a word. specs/Layout.antt has the places.
 use decode::machine_in;
 use encode::put_machine;
-use labels::Label;
 use machine::Machine;
-use model::Call;
-use model::CallGate;
-use model::Control;
-use model::Fixed;
 use model::Pair;
 ghost use mathlib.Core.Path.{_≡_};
-ghost use Rattle.model.specs.Load.{noMachine};
 ghost use Rattle.machine.specs.Answered.{recordOf};
 ghost use Rattle.layout.specs.Layout.{begins};
 ghost use Rattle.layout.specs.Reading.{readOf, writtenOf};
@@ -31,39 +25,6 @@ pub enum Found {
 pub struct Reading {
     pub found: Found,
     pub machine: Machine,
-}
-
-// The record of size 0, with no gate, no open call, and registers of value 0 and the lowest label.
-fn no_machine() -> Machine
-    ensures { λ r. ⌜ recordOf r ≡ noMachine ⌝ }
-{
-    let pair = Pair { pc: 0, timing: 0 };
-    let gate = CallGate { entry: 0, pair };
-    let gates = [gate; 8];
-    let fixed = Fixed {
-        size: 0,
-        limit: 0,
-        errorpc: 0,
-        count: 0,
-        gates,
-    };
-    let control = Control {
-        pc: 0,
-        pair,
-        clock: 0,
-        first: Call::Empty,
-        second: Call::Empty,
-        end: 0,
-        why: 0,
-    };
-    let values = [0u32; 16];
-    let labels = [Label::LOWEST.0; 16];
-    Machine {
-        fixed,
-        control,
-        values,
-        labels,
-    }
 }
 
 // Whether the buffer begins with the words.
@@ -99,7 +60,7 @@ pub fn read(buffer: &[u64]) -> Reading
     }
     Reading {
         found: Found::Nothing,
-        machine: no_machine(),
+        machine: Machine::blank(0, 0, 0, Pair { pc: 0, timing: 0 }, 0),
     }
 }
 

@@ -2,9 +2,7 @@
 // lines, and only when the last one is accepted does a second pass over the same lines write the lent memory.
 use labels::Label;
 use machine::Machine;
-use model::Call;
 use model::CallGate;
-use model::Control;
 use model::Fixed;
 use model::Pair;
 use model::format::Line;
@@ -18,7 +16,7 @@ ghost use lib.ListN.{length, drop, replicate};
 ghost use Rattle.labels.specs.Label.{validPair, lowest};
 ghost use Rattle.model.specs.declared.format.Line.{Line};
 ghost use Rattle.model.specs.Text.{lines};
-ghost use Rattle.model.specs.Load.{machineOfHeader, withGate, withRegister, headerInRange, gateInRange, entryInRange, leastOf, judge, fill, cleared, noMachine, load};
+ghost use Rattle.model.specs.Load.{withGate, withRegister, headerInRange, gateInRange, entryInRange, leastOf, judge, fill, cleared, noMachine, load};
 ghost use Rattle.machine.specs.Answered.{recordOf};
 ghost use Rattle.loader.specs.Load.{numberOf, bank, loadingOf, progressOf, verdictOf, headerNumber, lineNumber, afterwards, storable};
 
@@ -107,41 +105,6 @@ const GATES: u32 = 8;
 // How many registers there are.
 const REGISTERS: u32 = 16;
 
-// The record of an M line: clock, end and why at 0, no open call, no gate yet, all registers blank.
-fn blank_machine(size: u32, errorpc: u32, pc: u32, pair: Pair, limit: u32) -> Machine
-    ensures { λ r. ⌜ recordOf r ≡ machineOfHeader size errorpc pc (pair .pc) (pair .timing) limit ⌝ }
-{
-    let none = CallGate {
-        entry: 0,
-        pair: Pair { pc: 0, timing: 0 },
-    };
-    let gates = [none; 8];
-    let fixed = Fixed {
-        size: size,
-        limit: limit,
-        errorpc: errorpc,
-        count: 0,
-        gates: gates,
-    };
-    let control = Control {
-        pc: pc,
-        pair: pair,
-        clock: 0,
-        first: Call::Empty,
-        second: Call::Empty,
-        end: 0,
-        why: 0,
-    };
-    let values = [0u32; 16];
-    let labels = [Label::LOWEST.0; 16];
-    Machine {
-        fixed: fixed,
-        control: control,
-        values: values,
-        labels: labels,
-    }
-}
-
 // A refusal.
 fn refused(verdict: Verdict, line: u32) -> Loaded
     ensures { λ r. ⌜ (r .verdict ≡ verdict) × (r .line ≡ line) × (recordOf (r .machine) ≡ noMachine) ⌝ }
@@ -149,7 +112,7 @@ fn refused(verdict: Verdict, line: u32) -> Loaded
     Loaded {
         verdict: verdict,
         line: line,
-        machine: blank_machine(0, 0, 0, Pair { pc: 0, timing: 0 }, 0),
+        machine: Machine::blank(0, 0, 0, Pair { pc: 0, timing: 0 }, 0),
     }
 }
 
@@ -470,7 +433,7 @@ pub fn load(text: &[u8], words: &mut [u32], labels: &mut [u8]) -> Loaded
         pc: p as u8,
         timing: t as u8,
     };
-    let machine = blank_machine(size as u32, errorpc as u32, pc as u32, pair, limit as u32);
+    let machine = Machine::blank(size as u32, errorpc as u32, pc as u32, pair, limit as u32);
     let start = read.next;
     let judged = judge_lines(text, start, machine);
     let rest = judged.verdict;

@@ -1,13 +1,17 @@
 // The machine: its record, what its calls answer, and whether the record is well-formed. One step and the run are in
 // steps.rt.
 use labels::Label;
+use model::Call;
+use model::CallGate;
 use model::Control;
 use model::Fixed;
+use model::Pair;
 use wellformed::calls_well_formed;
 use wellformed::end_in_range;
 use wellformed::fixed_in_range;
 ghost use mathlib.Core.Path.{_≡_};
 ghost use Rattle.model.specs.WellFormed.{wellFormed};
+ghost use Rattle.model.specs.Load.{machineOfHeader};
 ghost use Rattle.machine.specs.Answered.{recordOf};
 
 mod steps;
@@ -35,6 +39,42 @@ pub struct Answer {
 }
 
 impl Machine {
+    // The record before its first step: clock, end and why at 0, no open call, no gate, all registers of value 0 and the
+    // lowest label.
+    pub fn blank(size: u32, errorpc: u32, pc: u32, pair: Pair, limit: u32) -> Machine
+        ensures { λ r. ⌜ recordOf r ≡ machineOfHeader size errorpc pc (pair .pc) (pair .timing) limit ⌝ }
+    {
+        let none = CallGate {
+            entry: 0,
+            pair: Pair { pc: 0, timing: 0 },
+        };
+        let gates = [none; 8];
+        let fixed = Fixed {
+            size,
+            limit,
+            errorpc,
+            count: 0,
+            gates,
+        };
+        let control = Control {
+            pc,
+            pair,
+            clock: 0,
+            first: Call::Empty,
+            second: Call::Empty,
+            end: 0,
+            why: 0,
+        };
+        let values = [0u32; 16];
+        let labels = [Label::LOWEST.0; 16];
+        Machine {
+            fixed,
+            control,
+            values,
+            labels,
+        }
+    }
+
     // Whether the record is well-formed.
     pub fn is_well_formed(self) -> bool
         ensures { λ r. ⌜ r ≡ wellFormed (recordOf self) ⌝ }

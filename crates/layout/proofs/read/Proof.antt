@@ -28,8 +28,8 @@ returns c =
     read-found (start .args .buffer .now) (cut .machine-in .ensures) (put .put-machine .ensures) (c .before .begins .ensures)
     (c .if1 .taken)
 
-no-machine-requires : tie.Need-no-machine-requires
-no-machine-requires c κs = search needs
+blank-requires : tie.Need-blank-requires
+blank-requires c κs = search needs
 
 returns-2 : tie.Need-returns-2
 returns-2 c =
@@ -37,7 +37,7 @@ returns-2 c =
     let cut = put .before .before in
     let start = cut .before .before in
     read-nothing (start .args .buffer .now) (cut .machine-in .ensures) (put .put-machine .ensures)
-    (c .before .before .begins .ensures) (c .before .if1 .left) (c .no-machine .ensures)
+    (c .before .before .begins .ensures) (c .before .if1 .left) (c .blank .ensures)
 
 pub read-spec : {M : Type 1} → statement M
 read-spec =
@@ -49,5 +49,5 @@ read-spec =
     slice-aggregate-begins
     begins-requires
     returns
-    no-machine-requires
+    blank-requires
     returns-2)

@@ -70,40 +70,40 @@ cast-t27 c =
           ((no-header-cause _ _ _ _ (c .before .before .header-verdict .ensures) (rw (c .before .number .ensures) at (c .if2 .left))) .range),
     )
 
-cast-blank-machine : tie.Need-cast-blank-machine
-cast-blank-machine c =
+cast-blank : tie.Need-cast-blank
+cast-blank c =
     omega (
       arith,
       header-range _ _ _ _ _ _
           ((no-header-cause _ _ _ _ (c .before .before .header-verdict .ensures) (rw (c .before .number .ensures) at (c .if2 .left))) .range),
     )
 
-cast-blank-machine-2 : tie.Need-cast-blank-machine-2
-cast-blank-machine-2 c =
+cast-blank-2 : tie.Need-cast-blank-2
+cast-blank-2 c =
     omega (
       arith,
       header-range _ _ _ _ _ _
           ((no-header-cause _ _ _ _ (c .before .before .header-verdict .ensures) (rw (c .before .number .ensures) at (c .if2 .left))) .range),
     )
 
-cast-blank-machine-3 : tie.Need-cast-blank-machine-3
-cast-blank-machine-3 c =
+cast-blank-3 : tie.Need-cast-blank-3
+cast-blank-3 c =
     omega (
       arith,
       header-range _ _ _ _ _ _
           ((no-header-cause _ _ _ _ (c .before .before .header-verdict .ensures) (rw (c .before .number .ensures) at (c .if2 .left))) .range),
     )
 
-cast-blank-machine-4 : tie.Need-cast-blank-machine-4
-cast-blank-machine-4 c =
+cast-blank-4 : tie.Need-cast-blank-4
+cast-blank-4 c =
     omega (
       arith,
       header-range _ _ _ _ _ _
           ((no-header-cause _ _ _ _ (c .before .before .header-verdict .ensures) (rw (c .before .number .ensures) at (c .if2 .left))) .range),
     )
 
-blank-machine-requires : tie.Need-blank-machine-requires
-blank-machine-requires c κs = search needs
+blank-requires : tie.Need-blank-requires
+blank-requires c κs = search needs
 
 judge-lines-requires : tie.Need-judge-lines-requires
 judge-lines-requires c κs =
@@ -131,7 +131,7 @@ returns-4 c =
     (c .before .before .before .before .before .before .before .before .before .first .given .1))
     (no-header-cause _ _ _ _ (c .before .before .before .before .before .before .before .header-verdict .ensures)
     (rw (c .before .before .before .before .before .before .number .ensures) at (c .before .before .before .before .before .if2 .left)))
-    _ (c .before .before .before .before .blank-machine .ensures)
+    _ (c .before .before .before .before .blank .ensures)
     (c .before .before .before .judge-lines .result)
     (c .before .before .before .judge-lines .ensures) (rw (c .before .before .number2 .ensures) at (c .before .if3 .taken)))
 
@@ -148,7 +148,7 @@ write-memory-requires c κs = (
       (c .before .before .before .before .before .before .before .before .before .before .first .given .1))
       (no-header-cause _ _ _ _ (c .before .before .before .before .before .before .before .before .header-verdict .ensures)
       (rw (c .before .before .before .before .before .before .before .number .ensures) at (c .before .before .before .before .before .before .if2 .left)))
-      _ (c .before .before .before .before .before .blank-machine .ensures)
+      _ (c .before .before .before .before .before .blank .ensures)
       (c .before .before .before .before .judge-lines .result)
       (c .before .before .before .before .judge-lines .ensures) (rw (c .before .before .before .number2 .ensures) at (c .before .before .if3 .left)),
   load-storable _
@@ -162,7 +162,7 @@ write-memory-requires c κs = (
       (c .before .before .before .before .before .before .before .before .before .before .first .given .1))
       (no-header-cause _ _ _ _ (c .before .before .before .before .before .before .before .before .header-verdict .ensures)
       (rw (c .before .before .before .before .before .before .before .number .ensures) at (c .before .before .before .before .before .before .if2 .left)))
-      _ (c .before .before .before .before .before .blank-machine .ensures)
+      _ (c .before .before .before .before .before .blank .ensures)
       (c .before .before .before .before .judge-lines .result)
       (c .before .before .before .before .judge-lines .ensures) (rw (c .before .before .before .number2 .ensures) at (c .before .before .if3 .left)),
 )
@@ -187,7 +187,7 @@ returns-5 c =
     (no-header-cause _ _ _ _
     (c .before .before .before .before .before .before .before .before .before .before .before .before .before .before .header-verdict .ensures)
     (rw (c .before .before .before .before .before .before .before .before .before .before .before .before .before .number .ensures) at (c .before .before .before .before .before .before .before .before .before .before .before .before .if2 .left)))
-    _ (c .before .before .before .before .before .before .before .before .before .before .before .blank-machine .ensures)
+    _ (c .before .before .before .before .before .before .before .before .before .before .before .blank .ensures)
     (c .before .before .before .before .before .before .before .before .before .before .judge-lines .result)
     (c .before .before .before .before .before .before .before .before .before .before .judge-lines .ensures)
     (rw (c .before .before .before .before .before .before .before .before .before .number2 .ensures) at (c .before .before .before .before .before .before .before .before .if3 .left)) _ _
@@ -209,11 +209,11 @@ load-spec =
     returns-3
     cast-if3
     cast-t27
-    cast-blank-machine
-    cast-blank-machine-2
-    cast-blank-machine-3
-    cast-blank-machine-4
-    blank-machine-requires
+    cast-blank
+    cast-blank-2
+    cast-blank-3
+    cast-blank-4
+    blank-requires
     judge-lines-requires
     number-requires-2
     refused-requires-4
