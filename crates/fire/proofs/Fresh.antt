@@ -30,7 +30,8 @@ use Rattle.model.proofs.Legal.{LegalWrite, keeps, sets, marks}
 use Rattle.model.proofs.Step.{Ready, step-write, step-ready}
 use Rattle.model.proofs.Program.{load-ready}
 use Rattle.loader.specs.Load.{storable}
-use Rattle.loader.proofs.Judging.{entry-range, acceptable}
+use Rattle.answers.proofs.Ranges.{entry-range}
+use Rattle.loader.proofs.Judging.{acceptable}
 
 -- Two memories agree below the size.
 record Agree (size : ℕ) (m n : Bank) : Type 0 where

@@ -23,7 +23,8 @@ use Rattle.model.specs.Load.{machineOfHeader, withEntry, headerInRange, entryIn
 use Rattle.model.proofs.Truth.{choice, and-iff, clash}
 use Rattle.model.proofs.Step.{below-set}
 use Rattle.loader.specs.Load.{storable}
-use Rattle.loader.proofs.Judging.{entry-range, acceptable}
+use Rattle.answers.proofs.Ranges.{entry-range}
+use Rattle.loader.proofs.Judging.{acceptable}
 
 -- ---- a step
 

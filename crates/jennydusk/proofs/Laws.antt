@@ -13,8 +13,10 @@ use Rattle.machine.specs.declared.Answer as struct
 use Rattle.machine.specs.Answered.{recordOf, numberOf, answered}
 use Rattle.loader.specs.declared.Loaded.{Loaded}
 use Rattle.printer.specs.declared.Printed.{Printed}
-use Rattle.printer.specs.declared.Outcome.{Outcome}
-use Rattle.printer.specs.declared.Outcome.the-variants.{Written, IllFormed, ShortMemory, ShortOutput}
+use Rattle.answers.specs.declared.print.Outcome.{Outcome}
+use Rattle.answers.specs.declared.print.Outcome.the-variants.{Written, IllFormed, ShortMemory, ShortOutput}
+use Rattle.answers.specs.Load as loads
+use Rattle.answers.specs.Print as prints
 use Rattle.loader.specs.Load as load
 use Rattle.printer.specs.Printing as print
 use Rattle.layout.specs.declared.Reading.{Reading}
@@ -58,7 +60,7 @@ module _ (f : Machine → Bank → model.Answer) (b : List ℕ) (m : Bank) (x : 
 -- A buffer that is long enough.
 pub was-loaded :
     (text : List ℕ) (m : Bank) (b : List ℕ) (a : Loaded) {number line answer : ℕ} {buffer words labels : List ℕ}
-    → load.loadingOf a words labels ≡ loading.load text m → number ≡ load.numberOf (a .verdict) → line ≡ a .line
+    → load.loadingOf a words labels ≡ loading.load text m → number ≡ loads.numberOf (a .verdict) → line ≡ a .line
     → buffer ≡ kept number (recordOf (a .machine)) b → answer ≡ counted number line
     → left answer buffer words labels ≡ afterLoading (loading.load text m) b
 was-loaded text m b a e n l k c = rw (k, c, n, l) (ap (λ (z : loading.Loading). afterLoading z b) e)
@@ -66,7 +68,7 @@ was-loaded text m b a e n l k c = rw (k, c, n, l) (ap (λ (z : loading.Loading).
 -- ---- print
 
 -- The numbers and the lengths that print answers fit an answer.
-pub small-number : (o : Outcome) → print.numberOf o ≤ 255
+pub small-number : (o : Outcome) → prints.numberOf o ≤ 255
 small-number (Written n) = omega arith
 small-number IllFormed = omega arith
 small-number ShortMemory = omega arith
@@ -74,7 +76,7 @@ small-number ShortOutput = omega arith
 
 pub small-length :
     (r : Machine) (m : Bank) (before : List ℕ) (a : Printed) (after : List ℕ)
-    → print.printingOf a after ≡ listing.print r m before → print.lengthOf (a .outcome) ≤ 2 ^ 32
+    → print.printingOf a after ≡ listing.print r m before → prints.lengthOf (a .outcome) ≤ 2 ^ 32
 small-length r m before a after e = rw (ap (λ (z : listing.Printing). z .bytes) e) (bytes-most r m before)
 
 module _ (m : Bank) (before : List ℕ) (x : Reading) where
@@ -86,8 +88,8 @@ module _ (m : Bank) (before : List ℕ) (x : Reading) where
   -- A buffer that holds one.
   pub was-printed :
       (h : Holding) (a : Printed) {number length answer : ℕ} {after : List ℕ} → readOf x ≡ given h → x .found ≡ found.Record
-      → print.printingOf a after ≡ listing.print (recordOf (x .machine)) m before → number ≡ print.numberOf (a .outcome)
-      → length ≡ print.lengthOf (a .outcome) → answer ≡ counted number length → shown answer after ≡ printed h m before
+      → print.printingOf a after ≡ listing.print (recordOf (x .machine)) m before → number ≡ prints.numberOf (a .outcome)
+      → length ≡ prints.lengthOf (a .outcome) → answer ≡ counted number length → shown answer after ≡ printed h m before
   was-printed (holds r) a e n s k l c =
       rw (c, k, l)
       (ap afterPrinting (s ∙ ap (λ (y : Machine). listing.print y m before) (same-record x e)))

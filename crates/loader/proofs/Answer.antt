@@ -18,19 +18,13 @@ use Rattle.model.specs.Text.{readLine, onwards, lines}
 use Rattle.model.specs.Load.{Loading, refuse, judge, fill, cleared, headerInRange, machineOfHeader, noMachine, refusal, settle, loadLines, load}
 use Rattle.model.proofs.Truth.{and-iff}
 use Rattle.machine.specs.Answered.{recordOf}
-use Rattle.loader.specs.declared.Verdict.{Verdict}
+use Rattle.answers.specs.declared.load.Verdict.{Verdict}
+use Rattle.answers.specs.Load.{numberOf, headerNumber}
+use Rattle.answers.proofs.Causes.{NoCause}
 use Rattle.loader.specs.declared.Loaded.{Loaded}
-use Rattle.loader.specs.Load.{numberOf, bank, loadingOf, verdictOf, headerNumber, storable}
+use Rattle.loader.specs.Load.{bank, loadingOf, verdictOf, storable}
 use Rattle.loader.proofs.Lines.{lines-first}
 use Rattle.loader.proofs.Judging.{Acceptable, acceptable}
-
--- A negated test that passed.
-pub fails : (t b : Bool) → t ≡ b → not t ≡ true → b ≡ false
-fails t b e n = sym e ∙ not-true t n
-
--- A negated test that failed.
-pub passes : (t b : Bool) → t ≡ b → not t ≡ false → b ≡ true
-passes t b e n = sym e ∙ not-false t n
 
 -- A struct that refuses is a refusal.
 pub refused-loading : (r : Loaded) (v : Verdict) (line : ℕ) (w l : List ℕ) (a : Loading)
@@ -94,20 +88,6 @@ pub header-of : (text : List ℕ) (r : Read) (size errorpc pc p t limit : ℕ)
 header-of text r size errorpc pc p t limit whole reads line = record { whole = whole; reads = reads; line = line }
 
 -- ---- behind an M line
-
--- No cause holds of the M line.
-pub record NoCause (a b c : Bool) : Type 0 where
-  pub range : a ≡ true
-  pub valid : b ≡ true
-  pub lent : c ≡ true
-
--- The number 0 says so.
-pub no-header-cause : (a b c : Bool) (code : ℕ) → code ≡ headerNumber a b c → code ≤ 0 → NoCause a b c
-unfolding headerNumber
-no-header-cause true true true code e z = record { range = refl; valid = refl; lent = refl }
-no-header-cause true true false code e z = absurd (omega arith)
-no-header-cause true false c code e z = absurd (omega arith)
-no-header-cause false b c code e z = absurd (omega arith)
 
 -- The answer, by the first cause that holds.
 header-cause : (a b c : Bool) (more : Loading) (m : Bank) (code : ℕ) → code ≡ headerNumber a b c → 0 < code

@@ -21,9 +21,10 @@ use Rattle.model.specs.Load.{Progress, refuse, accept, judge, fill, cleared, en
 use Rattle.model.proofs.Truth.{and-iff}
 use Rattle.text.proofs.read.Laws.{part, sized}
 use Rattle.loader.specs.declared.Tried.{Tried}
-use Rattle.loader.specs.Load.{numberOf, progressOf, afterwards, storable, bank}
+use Rattle.answers.specs.Load.{numberOf}
+use Rattle.answers.proofs.Ranges.{EntryRange, entry-range}
+use Rattle.loader.specs.Load.{progressOf, afterwards, storable, bank}
 use Rattle.loader.proofs.Lines.{First, judge-first, storable-first, fill-first}
-use Rattle.loader.proofs.Judging.{EntryRange, entry-range}
 
 -- ---- a line that was read
 

@@ -10,23 +10,12 @@ use Rattle.model.specs.Record.{Bank}
 use Rattle.model.specs.Load as model
 use Rattle.machine.specs.declared.Machine.{Machine}
 use Rattle.machine.specs.Answered.{recordOf}
-use Rattle.loader.specs.declared.Verdict.{Verdict}
-use Rattle.loader.specs.declared.Verdict.the-variants.{Accepted, TextSize, MalformedLine, OutOfRange, OutOfOrder, InvalidPair, ShortMemory}
+use Rattle.answers.specs.Load.{numberOf}
 use Rattle.loader.specs.declared.Loaded.{Loaded}
 use Rattle.loader.specs.declared.Progress.{Progress}
 use Rattle.loader.specs.declared.Tried.{Tried}
 
 -- ---- the answer of load
-
--- The refusal's number in the table of document 01, "Text", or 0. No two cases have one number: proofs/Faithful.antt.
-abbrev pub numberOf : Verdict → ℕ
-numberOf Accepted = 0
-numberOf TextSize = 1
-numberOf MalformedLine = 2
-numberOf OutOfRange = 3
-numberOf OutOfOrder = 4
-numberOf InvalidPair = 5
-numberOf ShortMemory = 6
 
 -- Words and their labels.
 abbrev pub bank : List ℕ → List ℕ → Bank
@@ -51,14 +40,6 @@ progressOf g = record { machine = recordOf (g .machine); kind = g .kind; least =
 -- The verdict that an answer of the first pass gives.
 abbrev pub verdictOf : Loaded → model.Verdict
 verdictOf r = cond (eqb (numberOf (r .verdict)) 0) (model.accept (recordOf (r .machine))) (model.refuse (numberOf (r .verdict)) (r .line))
-
--- The first cause that holds of the M line: 3 (range), 5 (pair), 6 (lent memory); 0 where there is none.
-unfoldable pub headerNumber : Bool → Bool → Bool → ℕ
-headerNumber inRange valid lent = cond inRange (cond valid (cond lent 0 6) 5) 3
-
--- The first cause that holds of a line behind it: 4 (kind), 3 (range), 4 (rising); 0 where there is none.
-unfoldable pub lineNumber : Bool → Bool → Bool → ℕ
-lineNumber inOrder inRange rising = cond inOrder (cond inRange (cond rising 0 4) 3) 4
 
 -- What follows the trial of line n: the lines behind it are judged, or it is refused.
 unfoldable pub afterwards : Tried → ℕ → List Line → model.Verdict

@@ -1,5 +1,9 @@
 // Loading: a text becomes the machine record and the memory that it describes, or is refused. A first pass judges all
 // lines, and only when the last one is accepted does a second pass over the same lines write the lent memory.
+use answers::load::Verdict;
+use answers::load::entry_verdict;
+use answers::load::gate_verdict;
+use answers::load::header_verdict;
 use labels::Label;
 use machine::Machine;
 use model::CallGate;
@@ -8,51 +12,16 @@ use model::Pair;
 use model::format::Line;
 use text::read::read_line;
 ghost use mathlib.Core.Path.{_≡_};
-ghost use mathlib.Core.Bool.{true, _&&_};
+ghost use mathlib.Core.Bool.{true};
 ghost use mathlib.Core.List.{List, [], _∷_, _++_};
 ghost use Prim.Native.Nat.{ℕ, _≤_};
-ghost use lib.Dec.{leb};
 ghost use lib.ListN.{length, drop, replicate};
-ghost use Rattle.labels.specs.Label.{validPair, lowest};
+ghost use Rattle.labels.specs.Label.{lowest};
 ghost use Rattle.model.specs.declared.format.Line.{Line};
 ghost use Rattle.model.specs.Text.{lines};
-ghost use Rattle.model.specs.Load.{withGate, withRegister, headerInRange, gateInRange, entryInRange, leastOf, judge, fill, cleared, noMachine, load};
+ghost use Rattle.model.specs.Load.{withGate, withRegister, gateInRange, entryInRange, leastOf, judge, fill, cleared, noMachine, load};
 ghost use Rattle.machine.specs.Answered.{recordOf};
-ghost use Rattle.loader.specs.Load.{numberOf, bank, loadingOf, progressOf, verdictOf, headerNumber, lineNumber, afterwards, storable};
-
-// Accepted, or the refusal: one case for each number of the table, so that number and case say the same.
-pub enum Verdict {
-    Accepted,
-    // The text is empty or too long.
-    TextSize,
-    // A line is malformed, or the first is no M line.
-    MalformedLine,
-    // A number is outside its range, or a ninth gate.
-    OutOfRange,
-    // A kind is out of order, a second M line, or a number isn't rising.
-    OutOfOrder,
-    // The pair of the M line isn't valid.
-    InvalidPair,
-    // The lent words or labels are shorter than the size.
-    ShortMemory,
-}
-
-impl Verdict {
-    // The refusal's number, or 0.
-    pub fn number(self) -> u8
-        ensures { λ r. ⌜ r ≡ numberOf self ⌝ }
-    {
-        match self {
-            Verdict::Accepted => 0,
-            Verdict::TextSize => 1,
-            Verdict::MalformedLine => 2,
-            Verdict::OutOfRange => 3,
-            Verdict::OutOfOrder => 4,
-            Verdict::InvalidPair => 5,
-            Verdict::ShortMemory => 6,
-        }
-    }
-}
+ghost use Rattle.loader.specs.Load.{bank, loadingOf, progressOf, verdictOf, afterwards, storable};
 
 // The verdict, the refusal's line or 0, and the record: beside a refusal stands one of size 0.
 pub struct Loaded {
@@ -87,21 +56,6 @@ const WORD: u8 = 3;
 // The most bytes of a text.
 const LONGEST_TEXT: usize = 65535;
 
-// The most words of a machine.
-const LARGEST_SIZE: u64 = 2048;
-
-// The most ticks of a limit.
-const LARGEST_LIMIT: u64 = 16777216;
-
-// Values and pcs are below this number.
-const VALUES: u64 = 4294967296;
-
-// Labels are below this number.
-const LABELS: u64 = 256;
-
-// How many gates there may be.
-const GATES: u32 = 8;
-
 // How many registers there are.
 const REGISTERS: u32 = 16;
 
@@ -113,76 +67,6 @@ fn refused(verdict: Verdict, line: u32) -> Loaded
         verdict: verdict,
         line: line,
         machine: Machine::blank(0, 0, 0, Pair { pc: 0, timing: 0 }, 0),
-    }
-}
-
-// Whether the numbers of an M line are in their ranges.
-fn header_in_range(size: u64, errorpc: u64, pc: u64, p: u64, t: u64, limit: u64) -> bool
-    ensures { λ r. ⌜ r ≡ headerInRange size errorpc pc p t limit ⌝ }
-{
-    (1 <= size)
-        & (size <= LARGEST_SIZE)
-        & (errorpc < VALUES)
-        & (pc < VALUES)
-        & (p < LABELS)
-        & (t < LABELS)
-        & (1 <= limit)
-        & (limit <= LARGEST_LIMIT)
-}
-
-// Whether the numbers of a G line are in their ranges, and it isn't the ninth.
-fn gate_in_range(count: u32, pc: u64, p: u64, t: u64) -> bool
-    ensures { λ r. ⌜ r ≡ gateInRange count pc p t ⌝ }
-{
-    (pc < VALUES) & (p < LABELS) & (t < LABELS) & (count < GATES)
-}
-
-// Whether the numbers of an R or W line are in their ranges.
-fn entry_in_range(bound: u32, k: u64, label: u64, value: u64) -> bool
-    ensures { λ r. ⌜ r ≡ entryInRange bound k label value ⌝ }
-{
-    (k < bound as u64) & (label < LABELS) & (value < VALUES)
-}
-
-// The verdict on an M line, by the first cause that holds: its ranges, its pair, the lent memory.
-fn header_verdict(
-    size: u64,
-    errorpc: u64,
-    pc: u64,
-    p: u64,
-    t: u64,
-    limit: u64,
-    words: usize,
-    labels: usize,
-) -> Verdict
-    ensures { λ r. ⌜ numberOf r ≡ headerNumber (headerInRange size errorpc pc p t limit) (validPair p t) (leb size words && leb size labels) ⌝ }
-{
-    let numbers_fit = header_in_range(size, errorpc, pc, p, t, limit);
-    let lent_whole = (size <= words as u64) & (size <= labels as u64);
-    if !numbers_fit {
-        return Verdict::OutOfRange;
-    }
-    if !Label(p as u8).is_valid_pair(Label(t as u8)) {
-        return Verdict::InvalidPair;
-    }
-    if !lent_whole {
-        return Verdict::ShortMemory;
-    }
-    Verdict::Accepted
-}
-
-// The verdict on a line behind it, by the first cause that holds: its kind, its ranges, its number.
-fn line_verdict(in_order: bool, in_range: bool, rising: bool) -> Verdict
-    ensures { λ r. ⌜ numberOf r ≡ lineNumber «in_order» «in_range» rising ⌝ }
-{
-    if !in_order {
-        Verdict::OutOfOrder
-    } else if !in_range {
-        Verdict::OutOfRange
-    } else if !rising {
-        Verdict::OutOfOrder
-    } else {
-        Verdict::Accepted
     }
 }
 
@@ -255,8 +139,7 @@ fn try_gate(progress: Progress, pc: u64, p: u64, t: u64) -> Tried
     ensures { λ r. ⌜ ((n : ℕ) (ls : List Line) → judge (progressOf progress) n (Line.G pc p t ∷ ls) ≡ afterwards r n ls) ⌝ }
 {
     let machine = progress.machine;
-    let in_range = gate_in_range(machine.fixed.count, pc, p, t);
-    let verdict = line_verdict(progress.kind <= GATE, in_range, true);
+    let verdict = gate_verdict(progress.kind, machine.fixed.count, pc, p, t);
     if verdict.number() == 0 {
         let next = Progress {
             machine: with_gate(machine, pc, p, t),
@@ -279,9 +162,8 @@ fn try_register(progress: Progress, k: u64, label: u64, value: u64) -> Tried
     ensures { λ r. ⌜ ((n : ℕ) (ls : List Line) → judge (progressOf progress) n (Line.R k label value ∷ ls) ≡ afterwards r n ls) ⌝ }
 {
     let machine = progress.machine;
-    let in_range = entry_in_range(REGISTERS, k, label, value);
-    let rising = least_of(progress, REGISTER) as u64 <= k;
-    let verdict = line_verdict(progress.kind <= REGISTER, in_range, rising);
+    let least = least_of(progress, REGISTER);
+    let verdict = entry_verdict(progress.kind <= REGISTER, REGISTERS, least, k, label, value);
     if verdict.number() == 0 {
         let next = Progress {
             machine: with_register(machine, k, label, value),
@@ -304,9 +186,15 @@ fn try_word(progress: Progress, k: u64, label: u64, value: u64) -> Tried
     ensures { λ r. ⌜ ((n : ℕ) (ls : List Line) → judge (progressOf progress) n (Line.W k label value ∷ ls) ≡ afterwards r n ls) ⌝ }
 {
     let machine = progress.machine;
-    let in_range = entry_in_range(machine.fixed.size, k, label, value);
-    let rising = least_of(progress, WORD) as u64 <= k;
-    let verdict = line_verdict(progress.kind <= WORD, in_range, rising);
+    let least = least_of(progress, WORD);
+    let verdict = entry_verdict(
+        progress.kind <= WORD,
+        machine.fixed.size,
+        least,
+        k,
+        label,
+        value,
+    );
     if verdict.number() == 0 {
         let next = Progress {
             machine: machine,

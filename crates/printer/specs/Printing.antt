@@ -12,23 +12,8 @@ use Rattle.model.specs.Record.{Bank, Machine, State, stateOf}
 use Rattle.model.specs.Listing.{line, callLine, listing, Printing, notPrinted}
 use Rattle.machine.specs.declared.Machine as struct
 use Rattle.machine.specs.Answered.{recordOf}
-use Rattle.printer.specs.declared.Outcome.{Outcome}
-use Rattle.printer.specs.declared.Outcome.the-variants.{Written, IllFormed, ShortMemory, ShortOutput}
+use Rattle.answers.specs.Print.{numberOf, lengthOf}
 use Rattle.printer.specs.declared.Printed.{Printed}
-
--- The number of an outcome in the table of document 01, "Text"; 0 where the listing was written.
-abbrev pub numberOf : Outcome → ℕ
-numberOf (Written n) = 0
-numberOf IllFormed = 7
-numberOf ShortMemory = 6
-numberOf ShortOutput = 8
-
--- The listing's length, or 0.
-abbrev pub lengthOf : Outcome → ℕ
-lengthOf (Written n) = n
-lengthOf IllFormed = 0
-lengthOf ShortMemory = 0
-lengthOf ShortOutput = 0
 
 -- The answer of print: number, record, length, and the output at exit.
 abbrev pub printingOf : Printed → List ℕ → Printing

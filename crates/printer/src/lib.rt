@@ -9,7 +9,8 @@ ghost use Rattle.model.specs.Listing.{callLine, entryLines, listing};
 ghost use Rattle.model.specs.Listing.{print as Listing·print};
 ghost use Rattle.machine.specs.Answered.{recordOf};
 ghost use Rattle.text.specs.Writing.{Wrote};
-ghost use Rattle.printer.specs.Printing.{numberOf, lengthOf, printingOf, lent, stateWith, printedWhole, Entries, endFields, callFields, headLines, isListed, entryText};
+ghost use Rattle.printer.specs.Printing.{printingOf, lent, stateWith, printedWhole, Entries, endFields, callFields, headLines, isListed, entryText};
+use answers::print::Outcome;
 use labels::Label;
 use machine::Machine;
 use model::Call;
@@ -26,40 +27,6 @@ const F: u8 = 70;
 const R: u8 = 82;
 
 const W: u8 = 87;
-
-// A listing of so many bytes was written; or the paper's refusals 7, 6 and 8.
-pub enum Outcome {
-    Written(usize),
-    IllFormed,
-    ShortMemory,
-    ShortOutput,
-}
-
-impl Outcome {
-    // The refusal's number, or 0.
-    pub fn number(self) -> u8
-        ensures { λ r. ⌜ r ≡ numberOf self ⌝ }
-    {
-        match self {
-            Outcome::Written(_) => 0,
-            Outcome::IllFormed => 7,
-            Outcome::ShortMemory => 6,
-            Outcome::ShortOutput => 8,
-        }
-    }
-
-    // How many bytes were written.
-    pub fn bytes(self) -> usize
-        ensures { λ r. ⌜ r ≡ lengthOf self ⌝ }
-    {
-        match self {
-            Outcome::Written(count) => count,
-            Outcome::IllFormed => 0,
-            Outcome::ShortMemory => 0,
-            Outcome::ShortOutput => 0,
-        }
-    }
-}
 
 // The outcome, and the record as it was given.
 pub struct Printed {

@@ -8,7 +8,8 @@ use lib.ListN.{length}
 use borrow.Author.Needs.{needs}
 use Rattle.loader.proofs.Answer.{refused-verdict}
 use Rattle.loader.proofs.Passes.{Judged, read-at, moves, accepted-good, judged-more, judged-refused, judged-end}
-use Rattle.loader.specs.Load.{numberOf, progressOf}
+use Rattle.answers.specs.Load.{numberOf}
+use Rattle.loader.specs.Load.{progressOf}
 use Rattle.loader.proofs.judge_lines.Statement.{statement}
 use Rattle.loader.proofs.judge_lines.Tie as tie
 

@@ -4,8 +4,9 @@ use mathlib.Core.Logic.{⊎-elim}
 use mathlib.Core.Path.{refl}
 use native.Mathlib.Omega.{arith}
 use borrow.Author.Needs.{needs}
-use Rattle.loader.proofs.Answer.{fails, passes, refused-loading, header-of, no-header-cause, not-long, load-1, load-2, load-header, load-refused, load-lent, load-storable, load-accepted}
-use Rattle.loader.proofs.Judging.{header-range}
+use Rattle.answers.proofs.Causes.{fails, passes, no-header-cause}
+use Rattle.loader.proofs.Answer.{refused-loading, header-of, not-long, load-1, load-2, load-header, load-refused, load-lent, load-storable, load-accepted}
+use Rattle.answers.proofs.Ranges.{header-range}
 use Rattle.loader.proofs.load.Statement.{statement}
 use Rattle.loader.proofs.load.Tie as tie
 

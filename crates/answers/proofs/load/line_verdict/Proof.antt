@@ -1,9 +1,9 @@
--- `loader::line_verdict` meets its contract: the causes of a later line, in their order.
+-- `answers::load::line_verdict` meets its contract: the causes of a later line, in their order.
 -- Assumes nothing.
 use borrow.Author.Tests.{not-true, not-false}
-use Rattle.loader.specs.Load.{lineNumber}
-use Rattle.loader.proofs.line_verdict.Statement.{statement}
-use Rattle.loader.proofs.line_verdict.Tie as tie
+use Rattle.answers.specs.Load.{lineNumber}
+use Rattle.answers.proofs.load.line_verdict.Statement.{statement}
+use Rattle.answers.proofs.load.line_verdict.Tie as tie
 
 returns : tie.Need-returns
 unfolding lineNumber

@@ -1,10 +1,10 @@
--- `loader::gate_in_range` meets its contract: the same tests.
+-- `answers::load::gate_in_range` meets its contract: the same tests.
 -- Assumes nothing.
 use mathlib.Core.Path.{refl}
 use Rattle.model.specs.Load.{gateInRange}
 use Rattle.model.specs.Ops.{isLabel}
-use Rattle.loader.proofs.gate_in_range.Statement.{statement}
-use Rattle.loader.proofs.gate_in_range.Tie as tie
+use Rattle.answers.proofs.load.gate_in_range.Statement.{statement}
+use Rattle.answers.proofs.load.gate_in_range.Tie as tie
 
 returns : tie.Need-returns
 unfolding gateInRange isLabel

@@ -1,10 +1,10 @@
--- `loader::entry_in_range` meets its contract: the same tests.
+-- `answers::load::entry_in_range` meets its contract: the same tests.
 -- Assumes nothing.
 use mathlib.Core.Path.{refl}
 use Rattle.model.specs.Load.{entryInRange}
 use Rattle.model.specs.Ops.{isLabel}
-use Rattle.loader.proofs.entry_in_range.Statement.{statement}
-use Rattle.loader.proofs.entry_in_range.Tie as tie
+use Rattle.answers.proofs.load.entry_in_range.Statement.{statement}
+use Rattle.answers.proofs.load.entry_in_range.Tie as tie
 
 returns : tie.Need-returns
 unfolding entryInRange isLabel

@@ -1,10 +1,10 @@
--- `loader::header_in_range` meets its contract: the same tests.
+-- `answers::load::header_in_range` meets its contract: the same tests.
 -- Assumes nothing.
 use mathlib.Core.Path.{refl}
 use Rattle.model.specs.Load.{headerInRange}
 use Rattle.model.specs.Ops.{isLabel}
-use Rattle.loader.proofs.header_in_range.Statement.{statement}
-use Rattle.loader.proofs.header_in_range.Tie as tie
+use Rattle.answers.proofs.load.header_in_range.Statement.{statement}
+use Rattle.answers.proofs.load.header_in_range.Tie as tie
 
 returns : tie.Need-returns
 unfolding headerInRange isLabel

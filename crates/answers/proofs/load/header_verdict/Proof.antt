@@ -1,15 +1,15 @@
--- `loader::header_verdict` meets its contract: the causes of an M line, in their order.
+-- `answers::load::header_verdict` meets its contract: the causes of an M line, in their order.
 -- Assumes nothing.
 use mathlib.Core.Bool.{_&&_}
 use native.Mathlib.Omega.{arith}
 use lib.Dec.{leb}
 use borrow.Author.Needs.{needs}
 use borrow.Author.Tests.{not-true, not-false}
-use Rattle.loader.proofs.Answer.{fails, passes}
-use Rattle.loader.proofs.Judging.{header-range}
-use Rattle.loader.specs.Load.{headerNumber}
-use Rattle.loader.proofs.header_verdict.Statement.{statement}
-use Rattle.loader.proofs.header_verdict.Tie as tie
+use Rattle.answers.proofs.Causes.{fails, passes}
+use Rattle.answers.proofs.Ranges.{header-range}
+use Rattle.answers.specs.Load.{headerNumber}
+use Rattle.answers.proofs.load.header_verdict.Statement.{statement}
+use Rattle.answers.proofs.load.header_verdict.Tie as tie
 
 header-in-range-requires : tie.Need-header-in-range-requires
 header-in-range-requires c κs = search needs

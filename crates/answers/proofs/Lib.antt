@@ -1,0 +1,3 @@
+pub mod Ranges
+pub mod Causes
+pub mod Faithful
