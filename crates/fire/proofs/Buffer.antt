@@ -17,7 +17,7 @@ use Rattle.model.proofs.Truth.{choice}
 use Rattle.model.proofs.Step.{Ready}
 use Rattle.model.proofs.Run.{run-leaves}
 use Rattle.model.proofs.Program.{load-ready, run-load-ready}
-use Rattle.text.proofs.Fields.{line-most}
+use Rattle.writer.proofs.Fields.{line-most}
 use Rattle.printer.proofs.Lines.{head-most, entries-most, listing-length}
 use Rattle.printer.proofs.Bound.{entries-bound}
 use Rattle.fire.proofs.WordLabels.{Bytes, run-labels, load-bytes}

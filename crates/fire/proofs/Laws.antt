@@ -15,7 +15,7 @@ use Rattle.model.specs.Load.{Loading, load}
 use Rattle.model.specs.Listing.{line, listing, Printing, print}
 use Rattle.model.specs.Program.{stateOfLoad, reply, memoryAfter, Firing, fire}
 use Rattle.model.proofs.Program.{run-done, print-done, load-ready, run-load-ready}
-use Rattle.text.specs.Writing.{Writing, answer, over, writing}
+use Rattle.writer.specs.Writing.{Writing, answer, over, writing}
 
 -- What was printed, and the memory, as a firing.
 abbrev printed : Printing → Bank → Firing

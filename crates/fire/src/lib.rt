@@ -2,7 +2,7 @@
 // is refused gets the line `X,number,line` instead.
 use loader::load;
 use printer::print;
-use text::write::write_line;
+use writer::write_line;
 ghost use mathlib.Core.Path.{_≡_};
 ghost use Rattle.machine.specs.Answered.{lent};
 ghost use Rattle.model.specs.Program.{fire};

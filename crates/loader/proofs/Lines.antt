@@ -13,7 +13,7 @@ use Rattle.model.specs.Record.{Bank}
 use Rattle.model.specs.Text.{readLine, onwards, linesIn, lines}
 use Rattle.model.specs.Load.{Progress, judge, fill, entryInRange}
 use Rattle.model.proofs.Truth.{and-iff, clash}
-use Rattle.text.proofs.read.Laws.{sized}
+use Rattle.reader.proofs.Laws.{sized}
 use Rattle.loader.specs.Load.{storable}
 
 -- ---- the first line and the lines of the rest

@@ -19,7 +19,7 @@ use Rattle.model.specs.Ops.{isLabel}
 use Rattle.model.specs.Text.{readLine, linesIn, lines}
 use Rattle.model.specs.Load.{Progress, refuse, accept, judge, fill, cleared, entryInRange}
 use Rattle.model.proofs.Truth.{and-iff}
-use Rattle.text.proofs.read.Laws.{part, sized}
+use Rattle.reader.proofs.Laws.{part, sized}
 use Rattle.loader.specs.declared.Tried.{Tried}
 use Rattle.answers.specs.Load.{numberOf}
 use Rattle.answers.proofs.Ranges.{EntryRange, entry-range}

@@ -10,7 +10,7 @@ use model::CallGate;
 use model::Fixed;
 use model::Pair;
 use model::format::Line;
-use text::read::read_line;
+use reader::read_line;
 ghost use mathlib.Core.Path.{_≡_};
 ghost use mathlib.Core.Bool.{true};
 ghost use mathlib.Core.List.{List, [], _∷_, _++_};

@@ -12,7 +12,7 @@ use Rattle.model.specs.WellFormed.{wellFormed, lentWhole}
 use Rattle.model.specs.Listing.{listing, Printing, notPrinted, print}
 use Rattle.model.proofs.Truth.{and-iff}
 use Rattle.model.proofs.WellFormed.{fit}
-use Rattle.text.specs.Writing.{over, Wrote}
+use Rattle.writer.specs.Writing.{over, Wrote}
 use Rattle.printer.specs.Printing.{printedWhole, Entries}
 
 module _ (r : Machine) (m : Bank) (out : List ℕ) where

@@ -18,8 +18,8 @@ use Rattle.model.specs.WellFormed.{endInRange, wellFormed}
 use Rattle.model.specs.Listing.{decimal, line, callLine, differs, entryLine, entryLines, listing}
 use Rattle.model.proofs.Truth.{and-iff, choice}
 use Rattle.model.proofs.WellFormed.{Fit, CallsFit, none, gate, upcall, both, fit}
-use Rattle.text.proofs.Decimal.{digits-below}
-use Rattle.text.proofs.Fields.{three-fields, five-fields, six-fields}
+use Rattle.writer.proofs.Decimal.{digits-below}
+use Rattle.writer.proofs.Fields.{three-fields, five-fields, six-fields}
 use Rattle.printer.specs.Printing.{endFields}
 use Rattle.printer.proofs.Lines.{cond-most, head-length, listing-length}
 

@@ -12,10 +12,10 @@ use Rattle.model.specs.declared.Call.{Call}
 use Rattle.model.specs.declared.Call.the-variants.{Empty, Gate, Upcall}
 use Rattle.model.specs.Record.{Bank, State}
 use Rattle.model.specs.Listing.{line, endLine, callLine, differs, entryLine, entryLines, listing}
-use Rattle.text.specs.Writing.{Wrote, answer, writing}
-use Rattle.text.proofs.Fields.{line-most}
-use Rattle.text.proofs.Over.{rest, room-behind}
-use Rattle.text.proofs.Answer.{line-wrote}
+use Rattle.writer.specs.Writing.{Wrote, answer, writing}
+use Rattle.writer.proofs.Fields.{line-most}
+use Rattle.writer.proofs.Over.{rest, room-behind}
+use Rattle.writer.proofs.Answer.{line-wrote}
 use Rattle.printer.specs.Printing.{endFields, headLines, isListed, entryText}
 
 -- ---- the E line and the F lines

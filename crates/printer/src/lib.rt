@@ -8,7 +8,7 @@ ghost use lib.ListN.{length};
 ghost use Rattle.model.specs.Listing.{callLine, entryLines, listing};
 ghost use Rattle.model.specs.Listing.{print as Listing·print};
 ghost use Rattle.machine.specs.Answered.{recordOf};
-ghost use Rattle.text.specs.Writing.{Wrote};
+ghost use Rattle.writer.specs.Writing.{Wrote};
 ghost use Rattle.printer.specs.Printing.{printingOf, lent, stateWith, printedWhole, Entries, endFields, callFields, headLines, isListed, entryText};
 use answers::print::Outcome;
 use labels::Label;
@@ -16,8 +16,8 @@ use machine::Machine;
 use model::Call;
 use model::Control;
 use model::Pair;
-use text::write::line_length;
-use text::write::write_line;
+use writer::line_length;
+use writer::write_line;
 
 // The letters of the lines.
 const E: u8 = 69;

@@ -3,7 +3,7 @@
 use mathlib.Core.Path.{refl, _∙_}
 use borrow.Author.Needs.{needs}
 use Rattle.machine.specs.Answered.{lent}
-use Rattle.text.specs.Writing.{answer}
+use Rattle.writer.specs.Writing.{answer}
 use Rattle.fire.proofs.Laws.{refused-firing, accepted-firing}
 use Rattle.fire.proofs.fire.Statement.{statement}
 use Rattle.fire.proofs.fire.Tie as tie

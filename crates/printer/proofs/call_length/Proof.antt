@@ -3,8 +3,8 @@
 use mathlib.Core.Path.{ap, _∙_}
 use native.Mathlib.Omega.{arith}
 use borrow.Author.Needs.{needs}
-use Rattle.text.proofs.Answer.{line-counted}
-use Rattle.text.specs.Writing.{lineLength}
+use Rattle.writer.proofs.Answer.{line-counted}
+use Rattle.writer.specs.Writing.{lineLength}
 use Rattle.printer.proofs.call_length.Statement.{statement}
 use Rattle.printer.proofs.call_length.Tie as tie
 

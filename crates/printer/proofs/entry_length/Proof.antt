@@ -3,7 +3,7 @@
 use mathlib.Core.Path.{sym, _∙_}
 use native.Mathlib.Omega.{arith}
 use borrow.Author.Needs.{needs}
-use Rattle.text.proofs.Answer.{line-counted}
+use Rattle.writer.proofs.Answer.{line-counted}
 use Rattle.printer.proofs.Lines.{entry-listed, entry-unlisted}
 use Rattle.printer.proofs.entry_length.Statement.{statement}
 use Rattle.printer.proofs.entry_length.Tie as tie

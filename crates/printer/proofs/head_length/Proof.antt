@@ -3,9 +3,9 @@
 use mathlib.Core.Path.{ap, _∙_}
 use native.Mathlib.Omega.{arith}
 use borrow.Author.Needs.{needs}
-use Rattle.text.proofs.Fields.{line-most}
-use Rattle.text.proofs.Answer.{line-counted}
-use Rattle.text.specs.Writing.{lineLength}
+use Rattle.writer.proofs.Fields.{line-most}
+use Rattle.writer.proofs.Answer.{line-counted}
+use Rattle.writer.specs.Writing.{lineLength}
 use Rattle.printer.specs.Printing.{endFields}
 use Rattle.printer.proofs.Lines.{call-most, head-length}
 use Rattle.printer.proofs.head_length.Statement.{statement}

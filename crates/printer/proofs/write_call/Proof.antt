@@ -5,9 +5,9 @@ use mathlib.Core.Path.{ap, _∙_}
 use mathlib.Core.List.{List}
 use native.Mathlib.Omega.{arith}
 use borrow.Author.Needs.{needs}
-use Rattle.text.proofs.Over.{wrote-none}
-use Rattle.text.proofs.Answer.{line-wrote}
-use Rattle.text.specs.Writing.{writing}
+use Rattle.writer.proofs.Over.{wrote-none}
+use Rattle.writer.proofs.Answer.{line-wrote}
+use Rattle.writer.specs.Writing.{writing}
 use Rattle.printer.proofs.write_call.Statement.{statement}
 use Rattle.printer.proofs.write_call.Tie as tie
 

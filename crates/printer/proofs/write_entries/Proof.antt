@@ -5,8 +5,8 @@ use mathlib.Core.Path.{_≡_}
 use native.Mathlib.Omega.{arith}
 use borrow.Author.Needs.{needs}
 use Rattle.model.specs.Listing.{entryLines}
-use Rattle.text.proofs.Over.{wrote-none, wrote-within, wrote-room, wrote-then, wrote-length}
-use Rattle.text.specs.Writing.{Wrote}
+use Rattle.writer.proofs.Over.{wrote-none, wrote-within, wrote-room, wrote-then, wrote-length}
+use Rattle.writer.specs.Writing.{Wrote}
 use Rattle.printer.specs.Printing.{lent}
 use Rattle.printer.proofs.Lines.{entry-room, entries-more}
 use Rattle.printer.proofs.write_entries.Statement.{statement}

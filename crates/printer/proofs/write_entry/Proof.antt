@@ -3,8 +3,8 @@
 use mathlib.Core.Path.{sym, _∙_}
 use native.Mathlib.Omega.{arith}
 use borrow.Author.Needs.{needs}
-use Rattle.text.proofs.Over.{wrote-none}
-use Rattle.text.proofs.Answer.{line-wrote}
+use Rattle.writer.proofs.Over.{wrote-none}
+use Rattle.writer.proofs.Answer.{line-wrote}
 use Rattle.printer.proofs.Lines.{entry-listed, entry-unlisted}
 use Rattle.printer.proofs.write_entry.Statement.{statement}
 use Rattle.printer.proofs.write_entry.Tie as tie

@@ -3,8 +3,8 @@
 use native.Mathlib.Omega.{arith}
 use borrow.Author.Needs.{needs}
 use Rattle.model.specs.Listing.{line}
-use Rattle.text.proofs.Over.{wrote-within, wrote-then}
-use Rattle.text.specs.Writing.{Wrote}
+use Rattle.writer.proofs.Over.{wrote-within, wrote-then}
+use Rattle.writer.specs.Writing.{Wrote}
 use Rattle.printer.specs.Printing.{endFields, headLines}
 use Rattle.printer.proofs.Lines.{end-wrote, first-room, second-room}
 use Rattle.printer.proofs.write_head.Statement.{statement}

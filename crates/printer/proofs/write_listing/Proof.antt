@@ -6,7 +6,7 @@ use lib.ListN.{length}
 use borrow.Author.Needs.{length-unmapped, needs}
 use Rattle.model.specs.Record.{stateOf, State}
 use Rattle.machine.specs.Answered.{recordOf}
-use Rattle.text.proofs.Over.{wrote-then}
+use Rattle.writer.proofs.Over.{wrote-then}
 use Rattle.printer.specs.Printing.{lent, Entries}
 use Rattle.printer.proofs.Lines.{head-room, registers-room, memory-room, listing-wrote}
 use Rattle.printer.proofs.write_listing.Statement.{statement}

@@ -1,0 +1,114 @@
+// Writing a line of the text format: its letter, its fields, each a comma and a number in base ten, and an LF. A line is
+// written into the output's rest, which the caller lends from where the line before it ended.
+ghost use mathlib.Core.Path.{_≡_};
+ghost use mathlib.Core.List.{_∷_};
+ghost use Prim.Native.Nat.{_≤_, _<_};
+ghost use lib.ListN.{length};
+ghost use Rattle.model.specs.Listing.{decimal, fields};
+ghost use Rattle.writer.specs.Writing.{Wrote, lineLength, answer, writing};
+
+const COMMA: u8 = 44;
+
+const ZERO: u8 = 48;
+
+const LF: u8 = 10;
+
+// No line has more fields.
+const MOST: usize = 6;
+
+// How many bytes the line with these numbers takes, whatever its letter; 0 where they are more than a line has.
+pub fn line_length(numbers: &[u64]) -> usize
+    ensures { λ r. ⌜ r ≡ lineLength (now (numbers .entry)) ⌝ }
+{
+    if numbers.len() <= MOST {
+        2 + fields_length(numbers)
+    } else {
+        0
+    }
+}
+
+// Writes a line and gives how many bytes it takes. Where the rest is too short for it, or the numbers are more than a
+// line has, it writes nothing and gives 0.
+pub fn write_line(out: &mut [u8], letter: u8, numbers: &[u64]) -> usize
+    ensures { λ r. ⌜ answer r (now (out .exit)) ≡ writing letter (now (numbers .entry)) (now (out .entry)) ⌝ }
+{
+    let count = line_length(numbers);
+    if count == 0 {
+        return 0;
+    }
+    if out.len() < count {
+        return 0;
+    }
+    out[0] = letter;
+    let last = 1 + put_fields(&mut out[1..], numbers);
+    out[last] = LF;
+    count
+}
+
+// How many bytes the fields take.
+fn fields_length(numbers: &[u64]) -> usize
+    requires { ⌜ length (now numbers) ≤ 6 ⌝ }
+    ensures { λ r. ⌜ r ≡ length (fields (now (numbers .entry))) ⌝ }
+{
+    let mut sum: usize = 0;
+    let mut i = 0;
+    while i < numbers.len() {
+        sum += 1 + digit_count(numbers[i]);
+        i += 1;
+    }
+    sum
+}
+
+// How many digits a number has.
+fn digit_count(n: u64) -> usize
+    ensures { λ r. ⌜ r ≡ length (decimal n) ⌝ }
+{
+    let mut count: usize = 1;
+    let mut high = n;
+    while 10 <= high {
+        high /= 10;
+        count += 1;
+    }
+    count
+}
+
+// Writes the fields, each behind the one before it.
+fn put_fields(out: &mut [u8], numbers: &[u64]) -> usize
+    requires { ⌜ length (fields (now numbers)) ≤ length (now out) ⌝ }
+    ensures { λ r. ⌜ Wrote (fields (now (numbers .entry))) (now (out .entry)) r (now (out .exit)) ⌝ }
+{
+    let mut at: usize = 0;
+    let mut i = 0;
+    while i < numbers.len() {
+        let n = numbers[i];
+        at += put_field(&mut out[at..], n);
+        i += 1;
+    }
+    at
+}
+
+// Writes a comma and a number.
+fn put_field(out: &mut [u8], n: u64) -> usize
+    requires { ⌜ length (decimal n) < length (now out) ⌝ }
+    ensures { λ r. ⌜ Wrote (44 ∷ decimal n) (now (out .entry)) r (now (out .exit)) ⌝ }
+{
+    out[0] = COMMA;
+    1 + put_number(&mut out[1..], n)
+}
+
+// Writes a number, its last digit first.
+fn put_number(out: &mut [u8], n: u64) -> usize
+    requires { ⌜ length (decimal n) ≤ length (now out) ⌝ }
+    ensures { λ r. ⌜ Wrote (decimal n) (now (out .entry)) r (now (out .exit)) ⌝ }
+{
+    let count = digit_count(n);
+    let mut at = count;
+    let mut rest = n;
+    while 10 <= rest {
+        at -= 1;
+        out[at] = ZERO + (rest % 10) as u8;
+        rest /= 10;
+    }
+    out[0] = ZERO + rest as u8;
+    count
+}
