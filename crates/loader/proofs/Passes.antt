@@ -14,16 +14,17 @@ use Rattle.labels.specs.Label.{lowest}
 use Rattle.model.specs.declared.format.Line.{Line}
 use Rattle.model.specs.declared.format.Line.the-variants.{M, G, R, W, Malformed}
 use Rattle.model.specs.declared.format.Read.{Read}
-use Rattle.model.specs.Record.{Bank}
+use Rattle.model.specs.Record.{Bank, Machine}
 use Rattle.model.specs.Ops.{isLabel}
 use Rattle.model.specs.Text.{readLine, linesIn, lines}
 use Rattle.model.specs.Load.{Progress, refuse, accept, judge, fill, cleared, entryInRange}
 use Rattle.model.proofs.Truth.{and-iff}
 use Rattle.reader.proofs.Laws.{part, sized}
+use Rattle.loader.specs.declared.Progress as struct
 use Rattle.loader.specs.declared.Tried.{Tried}
 use Rattle.answers.specs.Load.{numberOf}
 use Rattle.answers.proofs.Ranges.{EntryRange, entry-range}
-use Rattle.loader.specs.Load.{progressOf, afterwards, storable, bank}
+use Rattle.loader.specs.Load.{progressOf, withLine, Trial, afterwards, storable, bank}
 use Rattle.loader.proofs.Lines.{First, judge-first, storable-first, fill-first}
 
 -- ---- a line that was read
@@ -64,39 +65,40 @@ pub record Judged (text : List ℕ) (start : ℕ) (g₀ g : Progress) (at n : �
   pub counted : n ≤ at + 2
   pub same : judge g n (lines (drop at text)) ≡ judge g₀ 2 (lines (drop start text))
 
--- What is said of the trial of a line.
-abbrev pub Trial : Progress → Line → Tried → Type 0
-Trial g l t = (n : ℕ) (ls : List Line) → judge g n (l ∷ ls) ≡ afterwards t n ls
-
 -- A line that is accepted isn't malformed.
-pub accepted-good : (g : Progress) (l : Line) (t : Tried) → Trial g l t → numberOf (t .verdict) ≤ 0 → l ≡ Malformed → ⊥
+pub accepted-good : (r : Machine) (g : struct.Progress) (l : Line) (t : Tried) → Trial (r .fixed .size) (r .fixed .count) g l t
+    → numberOf (t .verdict) ≤ 0 → l ≡ Malformed → ⊥
 unfolding judge afterwards
-accepted-good g l t h z m =
+accepted-good r g l t h z m =
     let c : numberOf (t .verdict) ≡ 0 = omega arith in
-    let e : refuse 2 0 ≡ accept (progressOf (t .progress) .machine) =
-    sym (ap (λ (k : Line). judge g 0 (k ∷ [])) m) ∙ h 0 [] ∙ rw c in
+    let e : refuse 2 0 ≡ accept (withLine r l) =
+    sym (ap (λ (k : Line). judge (progressOf r g) 0 (k ∷ [])) m) ∙ h .judged r refl refl 0 [] ∙ rw c in
     let x : _≡_ {A = ℕ} 0 1 = cc in
     omega arith
 
-module _ (text : List ℕ) (start : ℕ) (g₀ g : Progress) (at n : ℕ) (r : Read) (t : Tried) (a : At text at r)
-    (h : Trial g (r .line) t) (j : Judged text start g₀ g at n) where
+module _ (text : List ℕ) (start : ℕ) (g₀ : Progress) (m : Machine) (g : struct.Progress) (at n : ℕ) (r : Read) (t : Tried)
+    (a : At text at r) (h : Trial (m .fixed .size) (m .fixed .count) g (r .line) t)
+    (j : Judged text start g₀ (progressOf m g) at n) where
   -- The verdict goes by the trial of this line.
-  judged-here : afterwards t n (lines (drop (at + r .next) text)) ≡ judge g₀ 2 (lines (drop start text))
+  judged-here : afterwards (withLine m (r .line)) t n (lines (drop (at + r .next) text)) ≡ judge g₀ 2 (lines (drop start text))
   judged-here =
-      sym (h n (lines (drop (at + r .next) text)))
-      ∙ ap (λ (ls : List ℕ). judge g n (r .line ∷ lines ls)) (sym (a .behind))
-      ∙ ap (λ (q : Read). judge g n (q .line ∷ lines (drop (q .next) (drop at text)))) (sym (a .reads))
-      ∙ sym (judge-first g n (drop at text) (a .more))
+      sym (h .judged m refl refl n (lines (drop (at + r .next) text)))
+      ∙ ap (λ (ls : List ℕ). judge (progressOf m g) n (r .line ∷ lines ls)) (sym (a .behind))
+      ∙ ap (λ (q : Read). judge (progressOf m g) n (q .line ∷ lines (drop (q .next) (drop at text)))) (sym (a .reads))
+      ∙ sym (judge-first (progressOf m g) n (drop at text) (a .more))
       ∙ j .same
 
-  -- The line is accepted.
-  pub judged-more : numberOf (t .verdict) ≤ 0 → Judged text start g₀ (progressOf (t .progress)) (at + r .next) (n + 1)
+  -- The line is accepted, and the record takes it.
+  pub judged-more : (m′ : Machine) → m′ ≡ withLine m (r .line) → numberOf (t .verdict) ≤ 0
+      → Judged text start g₀ (progressOf m′ (t .progress)) (at + r .next) (n + 1)
   unfolding afterwards
-  judged-more z =
+  judged-more m′ e z =
       let c : eqb (numberOf (t .verdict)) 0 ≡ true = eq-eqb (numberOf (t .verdict)) 0 (omega arith) in
       record {
-        counted = omega (arith, j .counted, moves text at r a (accepted-good g (r .line) t h z));
-        same = rw c at judged-here;
+        counted = omega (arith, j .counted, moves text at r a (accepted-good m g (r .line) t h z));
+        same =
+            ap (λ (x : Machine). judge (progressOf x (t .progress)) (n + 1) (lines (drop (at + r .next) text))) e
+            ∙ rw c at judged-here;
       }
 
   -- The line is refused.

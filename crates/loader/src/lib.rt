@@ -13,15 +13,16 @@ use model::format::Line;
 use reader::read_line;
 ghost use mathlib.Core.Path.{_≡_};
 ghost use mathlib.Core.Bool.{true};
-ghost use mathlib.Core.List.{List, [], _∷_, _++_};
-ghost use Prim.Native.Nat.{ℕ, _≤_};
+ghost use lib.Dec.{leb};
+ghost use mathlib.Core.List.{[], _∷_, _++_};
+ghost use Prim.Native.Nat.{_+_, _≤_};
 ghost use lib.ListN.{length, drop, replicate};
 ghost use Rattle.labels.specs.Label.{lowest};
-ghost use Rattle.model.specs.declared.format.Line.{Line};
 ghost use Rattle.model.specs.Text.{lines};
 ghost use Rattle.model.specs.Load.{withGate, withRegister, gateInRange, entryInRange, leastOf, judge, fill, cleared, noMachine, load};
 ghost use Rattle.machine.specs.Answered.{recordOf};
-ghost use Rattle.loader.specs.Load.{bank, loadingOf, progressOf, verdictOf, afterwards, storable};
+ghost use Rattle.answers.specs.Load.{lineNumber};
+ghost use Rattle.loader.specs.Load.{bank, loadingOf, progressOf, verdictOf, withLine, takes, Tries, Trial, storable};
 
 // The verdict, the refusal's line or 0, and the record: beside a refusal stands one of size 0.
 pub struct Loaded {
@@ -30,10 +31,9 @@ pub struct Loaded {
     pub machine: Machine,
 }
 
-// How far the lines have come: the record so far; the kind of the last line (1 for M or G, 2 for R, 3 for W); and the
-// least number that a line of that kind may have.
+// How far the lines have come: the kind of the last line (1 for M or G, 2 for R, 3 for W), and the least number that a
+// line of that kind may have.
 struct Progress {
-    machine: Machine,
     kind: u8,
     least: u32,
 }
@@ -72,7 +72,7 @@ fn refused(verdict: Verdict, line: u32) -> Loaded
 
 // The least number that a line of this kind may have.
 fn least_of(progress: Progress, kind: u8) -> u32
-    ensures { λ r. ⌜ r ≡ leastOf (progressOf progress) kind ⌝ }
+    ensures { λ r. ⌜ r ≡ leastOf (progressOf noMachine progress) kind ⌝ }
 {
     if progress.kind == kind {
         progress.least
@@ -115,18 +115,67 @@ fn with_register(machine: Machine, k: u64, label: u64, value: u64) -> Machine
     next
 }
 
-// A line behind the first, tried. A malformed one is 2, a second M is 4.
-fn try_line(progress: Progress, line: Line) -> Tried
-    ensures { λ r. ⌜ ((n : ℕ) (ls : List Line) → judge (progressOf progress) n (line ∷ ls) ≡ afterwards r n ls) ⌝ }
+// The machine with what an accepted line says of it. The words are written later.
+fn with_line(machine: Machine, line: Line) -> Machine
+    requires { ⌜ takes (machine .fixed .count) line ≡ true ⌝ }
+    ensures { λ r. ⌜ recordOf r ≡ withLine (recordOf machine) line ⌝ }
+{
+    match line {
+        Line::M(_, _, _, _, _, _) => machine,
+        Line::G(pc, p, t) => with_gate(machine, pc, p, t),
+        Line::R(k, label, value) => with_register(machine, k, label, value),
+        Line::W(_, _, _) => machine,
+        Line::Malformed => machine,
+    }
+}
+
+// A G line, behind so many gates.
+fn try_gate(count: u32, progress: Progress, pc: u64, p: u64, t: u64) -> Tried
+    ensures { λ r. ⌜ Tries (lineNumber (leb (progress .kind) 1) (gateInRange count pc p t) true) 1 0 r ⌝ }
+{
+    Tried {
+        verdict: gate_verdict(progress.kind, count, pc, p, t),
+        progress: Progress {
+            kind: GATE,
+            least: 0,
+        },
+    }
+}
+
+// An R or W line, whose number is to be below the bound.
+fn try_entry(kind: u8, bound: u32, progress: Progress, k: u64, label: u64, value: u64) -> Tried
+    ensures { λ r. ⌜ Tries (lineNumber (leb (progress .kind) kind) (entryInRange bound k label value) (leb (leastOf (progressOf noMachine progress) kind) k)) kind (k + 1) r ⌝ }
+{
+    let least = least_of(progress, kind);
+    let verdict = entry_verdict(progress.kind <= kind, bound, least, k, label, value);
+    if verdict.number() == 0 {
+        let next = Progress {
+            kind: kind,
+            least: k as u32 + 1,
+        };
+        return Tried {
+            verdict: verdict,
+            progress: next,
+        };
+    }
+    Tried {
+        verdict: verdict,
+        progress: progress,
+    }
+}
+
+// A line behind the first, tried for a machine of this size with so many gates. A malformed one is 2, a second M is 4.
+fn try_line(size: u32, count: u32, progress: Progress, line: Line) -> Tried
+    ensures { λ r. ⌜ Trial size count progress line r ⌝ }
 {
     match line {
         Line::M(_, _, _, _, _, _) => Tried {
             verdict: Verdict::OutOfOrder,
             progress: progress,
         },
-        Line::G(pc, p, t) => try_gate(progress, pc, p, t),
-        Line::R(k, label, value) => try_register(progress, k, label, value),
-        Line::W(k, label, value) => try_word(progress, k, label, value),
+        Line::G(pc, p, t) => try_gate(count, progress, pc, p, t),
+        Line::R(k, label, value) => try_entry(REGISTER, REGISTERS, progress, k, label, value),
+        Line::W(k, label, value) => try_entry(WORD, size, progress, k, label, value),
         Line::Malformed => Tried {
             verdict: Verdict::MalformedLine,
             progress: progress,
@@ -134,91 +183,13 @@ fn try_line(progress: Progress, line: Line) -> Tried
     }
 }
 
-// A G line.
-fn try_gate(progress: Progress, pc: u64, p: u64, t: u64) -> Tried
-    ensures { λ r. ⌜ ((n : ℕ) (ls : List Line) → judge (progressOf progress) n (Line.G pc p t ∷ ls) ≡ afterwards r n ls) ⌝ }
-{
-    let machine = progress.machine;
-    let verdict = gate_verdict(progress.kind, machine.fixed.count, pc, p, t);
-    if verdict.number() == 0 {
-        let next = Progress {
-            machine: with_gate(machine, pc, p, t),
-            kind: GATE,
-            least: 0,
-        };
-        return Tried {
-            verdict: Verdict::Accepted,
-            progress: next,
-        };
-    }
-    Tried {
-        verdict: verdict,
-        progress: progress,
-    }
-}
-
-// An R line.
-fn try_register(progress: Progress, k: u64, label: u64, value: u64) -> Tried
-    ensures { λ r. ⌜ ((n : ℕ) (ls : List Line) → judge (progressOf progress) n (Line.R k label value ∷ ls) ≡ afterwards r n ls) ⌝ }
-{
-    let machine = progress.machine;
-    let least = least_of(progress, REGISTER);
-    let verdict = entry_verdict(progress.kind <= REGISTER, REGISTERS, least, k, label, value);
-    if verdict.number() == 0 {
-        let next = Progress {
-            machine: with_register(machine, k, label, value),
-            kind: REGISTER,
-            least: k as u32 + 1,
-        };
-        return Tried {
-            verdict: Verdict::Accepted,
-            progress: next,
-        };
-    }
-    Tried {
-        verdict: verdict,
-        progress: progress,
-    }
-}
-
-// A W line. The memory is written later.
-fn try_word(progress: Progress, k: u64, label: u64, value: u64) -> Tried
-    ensures { λ r. ⌜ ((n : ℕ) (ls : List Line) → judge (progressOf progress) n (Line.W k label value ∷ ls) ≡ afterwards r n ls) ⌝ }
-{
-    let machine = progress.machine;
-    let least = least_of(progress, WORD);
-    let verdict = entry_verdict(
-        progress.kind <= WORD,
-        machine.fixed.size,
-        least,
-        k,
-        label,
-        value,
-    );
-    if verdict.number() == 0 {
-        let next = Progress {
-            machine: machine,
-            kind: WORD,
-            least: k as u32 + 1,
-        };
-        return Tried {
-            verdict: Verdict::Accepted,
-            progress: next,
-        };
-    }
-    Tried {
-        verdict: verdict,
-        progress: progress,
-    }
-}
-
 // The first pass: the lines from `start` on, behind the M line of this machine.
-fn judge_lines(text: &[u8], start: usize, machine: Machine) -> Loaded
+fn judge_lines(text: &[u8], start: usize, header: Machine) -> Loaded
     requires { ⌜ length (now text) ≤ 65535 ⌝ }
-    ensures { λ r. ⌜ verdictOf r ≡ judge (record { machine = recordOf machine; kind = 1; least = 0 }) 2 (lines (drop start (now (text .entry)))) ⌝ }
+    ensures { λ r. ⌜ verdictOf r ≡ judge (record { machine = recordOf header; kind = 1; least = 0 }) 2 (lines (drop start (now (text .entry)))) ⌝ }
 {
+    let mut machine = header;
     let mut progress = Progress {
-        machine: machine,
         kind: GATE,
         least: 0,
     };
@@ -227,21 +198,21 @@ fn judge_lines(text: &[u8], start: usize, machine: Machine) -> Loaded
     while at < text.len() {
         let read = read_line(&text[at..]);
         let line = read.line;
-        let tried = try_line(progress, line);
+        let tried = try_line(machine.fixed.size, machine.fixed.count, progress, line);
         let verdict = tried.verdict;
         if 0 < verdict.number() {
             return refused(verdict, number);
         }
         let next = tried.progress;
         progress = next;
+        machine = with_line(machine, line);
         at += read.next;
         number += 1;
     }
-    let accepted = progress.machine;
     Loaded {
         verdict: Verdict::Accepted,
         line: 0,
-        machine: accepted,
+        machine: machine,
     }
 }
 
