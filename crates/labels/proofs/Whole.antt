@@ -2,7 +2,7 @@
 -- whole labels. The code does them so. Assumes nothing.
 use Prim.Native.Nat.{ℕ, _+_, _-_, _*_, _/_, _%_, _^_, _<_}
 use mathlib.Core.Path.{_≡_, sym, ap, ap₂, _∙_}
-use mathlib.Core.Bool.{_&&_, and-eq-true-iff}
+use mathlib.Core.Bool.{true, _&&_, and-eq-true-iff}
 use native.Mathlib.Omega.{arith}
 use lib.Bits.{bitAnd, bitOr, bitXor, xor-zero-r, and-shr, or-shr, xor-shr, and-mod, or-mod, xor-mod, and-comm}
 use lib.Dec.{eqb}
@@ -60,45 +60,41 @@ confidentiality-turned n l =
 
 -- ---- join and meet
 
--- The join: the restrictions of both labels.
-pub whole-join : (n a b : ℕ) → a < 2 ^ (n + n) → b < 2 ^ (n + n)
-    → bitXor (bitOr (bitXor a (lowest n)) (bitXor b (lowest n))) (lowest n) ≡ join n a b
-unfolding join
-whole-join n a b h k =
-    let x = bitOr (bitXor a (lowest n)) (bitXor b (lowest n)) in
-    let i : integrity n x ≡ bitOr (bitXor (integrity n a) (2 ^ n - 1)) (bitXor (integrity n b) (2 ^ n - 1)) =
-    integrity-op bitOr or-shr n (bitXor a (lowest n)) (bitXor b (lowest n))
-    ∙ ap₂ bitOr (integrity-turned n a) (integrity-turned n b) in
-    let c : confidentiality n x ≡ bitOr (confidentiality n a) (confidentiality n b) =
-    confidentiality-op bitOr or-mod n (bitXor a (lowest n)) (bitXor b (lowest n))
-    ∙ ap₂ bitOr (confidentiality-kept n a) (confidentiality-kept n b) in
+-- An operation between two labels whose integrity is turned, and the result's turned back: on the confidentiality it is
+-- itself, on the integrity the other one of the two.
+whole-op : (op other : ℕ → ℕ → ℕ) → ((a b k : ℕ) → op a b / 2 ^ k ≡ op (a / 2 ^ k) (b / 2 ^ k))
+    → ((a b k : ℕ) → op a b % 2 ^ k ≡ op (a % 2 ^ k) (b % 2 ^ k))
+    → ((m x y : ℕ) → subset x m ≡ true → subset y m ≡ true → bitXor (op (bitXor x m) (bitXor y m)) m ≡ other x y)
+    → (n a b : ℕ) → a < 2 ^ (n + n) → b < 2 ^ (n + n)
+    → bitXor (op (bitXor a (lowest n)) (bitXor b (lowest n))) (lowest n)
+    ≡ label n (other (integrity n a) (integrity n b)) (op (confidentiality n a) (confidentiality n b))
+whole-op op other half rest turn n a b h k =
+    let x = op (bitXor a (lowest n)) (bitXor b (lowest n)) in
+    let i : integrity n x ≡ op (bitXor (integrity n a) (2 ^ n - 1)) (bitXor (integrity n b) (2 ^ n - 1)) =
+    integrity-op op half n (bitXor a (lowest n)) (bitXor b (lowest n))
+    ∙ ap₂ op (integrity-turned n a) (integrity-turned n b) in
+    let c : confidentiality n x ≡ op (confidentiality n a) (confidentiality n b) =
+    confidentiality-op op rest n (bitXor a (lowest n)) (bitXor b (lowest n))
+    ∙ ap₂ op (confidentiality-kept n a) (confidentiality-kept n b) in
     sym (label-halves n (bitXor x (lowest n)))
     ∙ ap₂ (label n)
     (integrity-turned n x
     ∙ ap (λ (y : ℕ). bitXor y (2 ^ n - 1)) i
-    ∙ lacked-by-neither (2 ^ n - 1) (integrity n a) (integrity n b) (subset-all n (integrity n a) (integrity-lt n a h))
+    ∙ turn (2 ^ n - 1) (integrity n a) (integrity n b) (subset-all n (integrity n a) (integrity-lt n a h))
     (subset-all n (integrity n b) (integrity-lt n b k)))
     (confidentiality-kept n x ∙ c)
+
+-- The join: the restrictions of both labels.
+pub whole-join : (n a b : ℕ) → a < 2 ^ (n + n) → b < 2 ^ (n + n)
+    → bitXor (bitOr (bitXor a (lowest n)) (bitXor b (lowest n))) (lowest n) ≡ join n a b
+unfolding join
+whole-join = whole-op bitOr bitAnd or-shr or-mod lacked-by-neither
 
 -- The meet: the restrictions that both labels have.
 pub whole-meet : (n a b : ℕ) → a < 2 ^ (n + n) → b < 2 ^ (n + n)
     → bitXor (bitAnd (bitXor a (lowest n)) (bitXor b (lowest n))) (lowest n) ≡ meet n a b
 unfolding meet
-whole-meet n a b h k =
-    let x = bitAnd (bitXor a (lowest n)) (bitXor b (lowest n)) in
-    let i : integrity n x ≡ bitAnd (bitXor (integrity n a) (2 ^ n - 1)) (bitXor (integrity n b) (2 ^ n - 1)) =
-    integrity-op bitAnd and-shr n (bitXor a (lowest n)) (bitXor b (lowest n))
-    ∙ ap₂ bitAnd (integrity-turned n a) (integrity-turned n b) in
-    let c : confidentiality n x ≡ bitAnd (confidentiality n a) (confidentiality n b) =
-    confidentiality-op bitAnd and-mod n (bitXor a (lowest n)) (bitXor b (lowest n))
-    ∙ ap₂ bitAnd (confidentiality-kept n a) (confidentiality-kept n b) in
-    sym (label-halves n (bitXor x (lowest n)))
-    ∙ ap₂ (label n)
-    (integrity-turned n x
-    ∙ ap (λ (y : ℕ). bitXor y (2 ^ n - 1)) i
-    ∙ lacked-by-both (2 ^ n - 1) (integrity n a) (integrity n b) (subset-all n (integrity n a) (integrity-lt n a h))
-    (subset-all n (integrity n b) (integrity-lt n b k)))
-    (confidentiality-kept n x ∙ c)
+whole-meet = whole-op bitAnd bitOr and-shr and-mod lacked-by-both
 
 -- ---- flow
 
