@@ -19,10 +19,10 @@ use Rattle.answers.specs.Load as loads
 use Rattle.answers.specs.Print as prints
 use Rattle.loader.specs.Load as load
 use Rattle.printer.specs.Printing as print
-use Rattle.layout.specs.declared.Reading.{Reading}
-use Rattle.layout.specs.declared.Found.the-variants as found
-use Rattle.layout.specs.Layout.{Holding, holds, nothing}
-use Rattle.layout.specs.Reading.{Read, given, isFound, readOf}
+use Rattle.decoder.specs.declared.Reading.{Reading}
+use Rattle.decoder.specs.declared.Found.the-variants as found
+use Rattle.decoder.specs.Held.{Holding, holds, nothing}
+use Rattle.decoder.specs.Reading.{Read, given, isFound, readOf}
 use Rattle.jennydusk.specs.Calls.{left, untouched, kept, afterAnswer, called, counted, afterLoading, shown, afterPrinting, printed}
 use Rattle.jennydusk.proofs.Length.{bytes-most}
 

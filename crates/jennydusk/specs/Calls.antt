@@ -1,9 +1,9 @@
--- What each call answers and leaves, for every buffer and every length. A record stands in a buffer as the crate layout
--- has it. The numbers are those of document 01's table, 0 where nothing was refused; a buffer that holds no record is 7
--- too, and is left with all else.
+-- What each call answers and leaves, for every buffer and every length. A record stands in a buffer as the crates encoder
+-- and decoder have it. The numbers are those of document 01's table, 0 where nothing was refused; a buffer that holds no
+-- record is 7 too, and is left with all else.
 -- Assumes nothing.
 use Prim.Native.Nat.{ℕ, _+_, _*_}
-use mathlib.Core.Bool.{cond}
+use mathlib.Core.Bool.{Bool, true, false, cond}
 use mathlib.Core.List.{List}
 use lib.Dec.{leb, eqb}
 use lib.ListN.{length}
@@ -11,8 +11,9 @@ use Rattle.model.specs.Record.{Bank, Machine}
 use Rattle.model.specs.Answer.{Answer, stepAnswer, runAnswer}
 use Rattle.model.specs.Load.{Loading, load}
 use Rattle.model.specs.Listing.{Printing, print}
-use Rattle.layout.specs.Layout.{Holding, holds, nothing, machineIn, span}
-use Rattle.layout.specs.Reading.{write}
+use Rattle.encoder.specs.Layout.{span}
+use Rattle.encoder.specs.Writing.{write}
+use Rattle.decoder.specs.Held.{Holding, holds, nothing, machineIn}
 
 -- ---- calls that may change a record: load, step, run
 
@@ -88,3 +89,10 @@ printed (holds r) m out = afterPrinting (print r m out)
 -- jennydusk_print.
 unfoldable pub printCall : List ℕ → Bank → List ℕ → Shown
 printCall b m out = printed (machineIn b) m out
+
+-- ======== Here ends what the public promises cite.
+
+-- The answer of step, or of run.
+abbrev pub stepOrRun : Bool → Machine → Bank → Answer
+stepOrRun true = stepAnswer
+stepOrRun false = runAnswer

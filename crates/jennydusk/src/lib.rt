@@ -1,14 +1,16 @@
 // The machine for programs in other languages: load, step, run and print over buffers that the caller lends. A record
-// stands in a buffer of 64-bit words, as the crate layout has it. Nothing is kept between calls.
-use layout::Found;
+// stands in a buffer of 64-bit words, as the crates encoder and decoder have it. Nothing is kept between calls.
+use decoder::Found;
 use loader::load;
+use machine::Answer;
 use machine::Machine;
 use machine::Outcome;
 use printer::print;
 ghost use Prim.Native.Nat.{_≤_, _^_};
 ghost use mathlib.Core.Path.{_≡_};
-ghost use Rattle.machine.specs.Answered.{recordOf, numberOf, lent};
-ghost use Rattle.jennydusk.specs.Calls.{left, kept, counted, shown, loadCall, stepCall, runCall, printCall};
+ghost use Rattle.machine.specs.Answered.{recordOf, numberOf, answered, lent};
+ghost use Rattle.decoder.specs.Held.{machineIn};
+ghost use Rattle.jennydusk.specs.Calls.{left, kept, called, counted, shown, loadCall, stepCall, runCall, printCall, stepOrRun};
 
 // The answer for a buffer that holds no record.
 const NO_RECORD: u64 = 7;
@@ -29,7 +31,7 @@ fn keep(number: u64, machine: Machine, record: &mut [u64])
     ensures { λ r. ⌜ now («record» .exit) ≡ kept number (recordOf machine) (now («record» .entry)) ⌝ }
 {
     if number == 0 {
-        layout::write(machine, record);
+        encoder::write(machine, record);
     }
 }
 
@@ -51,7 +53,7 @@ pub extern "C" fn jennydusk_load(
 ) -> u64
     ensures { λ r. ⌜ left r (now («record» .exit)) (now (words .exit)) (now (labels .exit)) ≡ loadCall (now (text .entry)) (lent (now (words .entry)) (now (labels .entry))) (now («record» .entry)) ⌝ }
 {
-    if record.len() < layout::SPAN {
+    if record.len() < encoder::SPAN {
         return NO_RECORD;
     }
     let loaded = load(text, words, labels);
@@ -63,18 +65,27 @@ pub extern "C" fn jennydusk_load(
     counted(number, line)
 }
 
-// One step of the record.
-#[no_mangle]
-pub extern "C" fn jennydusk_step(record: &mut [u64], words: &mut [u32], labels: &mut [u8]) -> u64
-    ensures { λ r. ⌜ left r (now («record» .exit)) (now (words .exit)) (now (labels .exit)) ≡ stepCall (now («record» .entry)) (lent (now (words .entry)) (now (labels .entry))) ⌝ }
+// The answer of one step, or of a run.
+fn step_or_run(once: bool, machine: Machine, words: &mut [u32], labels: &mut [u8]) -> Answer
+    ensures { λ r. ⌜ answered r (now (words .exit)) (now (labels .exit)) ≡ stepOrRun once (recordOf machine) (lent (now (words .entry)) (now (labels .entry))) ⌝ }
 {
-    let reading = layout::read(record);
+    if once {
+        return machine.step(words, labels);
+    }
+    machine.run(words, labels)
+}
+
+// One step of the record in the buffer, or its run: what the two calls below share.
+fn advanced(once: bool, record: &mut [u64], words: &mut [u32], labels: &mut [u8]) -> u64
+    ensures { λ r. ⌜ left r (now («record» .exit)) (now (words .exit)) (now (labels .exit)) ≡ called (stepOrRun once) (machineIn (now («record» .entry))) (now («record» .entry)) (lent (now (words .entry)) (now (labels .entry))) ⌝ }
+{
+    let reading = decoder::read(record);
     let found = reading.found;
     if let Found::Nothing = found {
         return NO_RECORD;
     }
     let machine = reading.machine;
-    let answer = machine.step(words, labels);
+    let answer = step_or_run(once, machine, words, labels);
     let outcome = answer.outcome;
     let next = answer.machine;
     let number = number_of(outcome);
@@ -82,23 +93,20 @@ pub extern "C" fn jennydusk_step(record: &mut [u64], words: &mut [u32], labels: 
     number
 }
 
+// One step of the record.
+#[no_mangle]
+pub extern "C" fn jennydusk_step(record: &mut [u64], words: &mut [u32], labels: &mut [u8]) -> u64
+    ensures { λ r. ⌜ left r (now («record» .exit)) (now (words .exit)) (now (labels .exit)) ≡ stepCall (now («record» .entry)) (lent (now (words .entry)) (now (labels .entry))) ⌝ }
+{
+    advanced(true, record, words, labels)
+}
+
 // Steps of the record until its end isn't 0.
 #[no_mangle]
 pub extern "C" fn jennydusk_run(record: &mut [u64], words: &mut [u32], labels: &mut [u8]) -> u64
     ensures { λ r. ⌜ left r (now («record» .exit)) (now (words .exit)) (now (labels .exit)) ≡ runCall (now («record» .entry)) (lent (now (words .entry)) (now (labels .entry))) ⌝ }
 {
-    let reading = layout::read(record);
-    let found = reading.found;
-    if let Found::Nothing = found {
-        return NO_RECORD;
-    }
-    let machine = reading.machine;
-    let answer = machine.run(words, labels);
-    let outcome = answer.outcome;
-    let next = answer.machine;
-    let number = number_of(outcome);
-    keep(number, next, record);
-    number
+    advanced(false, record, words, labels)
 }
 
 // Writes the listing of the record and its memory into `out`.
@@ -111,7 +119,7 @@ pub extern "C" fn jennydusk_print(
 ) -> u64
     ensures { λ r. ⌜ shown r (now (out .exit)) ≡ printCall (now («record» .entry)) (lent (now (words .entry)) (now (labels .entry))) (now (out .entry)) ⌝ }
 {
-    let reading = layout::read(record);
+    let reading = decoder::read(record);
     let found = reading.found;
     if let Found::Nothing = found {
         return NO_RECORD;

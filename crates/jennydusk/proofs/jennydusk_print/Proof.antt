@@ -2,8 +2,8 @@
 -- Assumes nothing.
 use borrow.Author.Needs.{needs}
 use Rattle.machine.specs.Answered.{recordOf, lent}
-use Rattle.layout.specs.Layout.{machineIn}
-use Rattle.layout.specs.Reading as reading
+use Rattle.decoder.specs.Held.{machineIn}
+use Rattle.decoder.specs.Reading as reading
 use Rattle.jennydusk.specs.Calls.{printCall}
 use Rattle.jennydusk.proofs.Laws.{small-number, small-length, not-printed, was-printed}
 use Rattle.jennydusk.proofs.jennydusk_print.Statement.{statement}

@@ -3,7 +3,7 @@
 use mathlib.Core.Path.{refl, ap}
 use borrow.Author.Needs.{needs}
 use borrow.Author.Tests.{eq-eqb, ne-eqb}
-use Rattle.layout.specs.Reading.{Written}
+use Rattle.encoder.specs.Writing.{Written}
 use Rattle.jennydusk.specs.Calls.{kept}
 use Rattle.jennydusk.proofs.keep.Statement.{statement}
 use Rattle.jennydusk.proofs.keep.Tie as tie

@@ -1,0 +1,3 @@
+mod Lists
+mod Laws
+pub mod RoundTrip

@@ -1,0 +1,280 @@
+-- The layout's two laws: a record's words, whatever lies behind them, hold that record; and a buffer that holds a record
+-- begins with that record's words, the record being one of the code. So exactly the buffers that begin with the words of
+-- a record hold one.
+-- Assumes nothing.
+use Prim.Native.Nat.{ℕ, zero, suc, _+_, _*_, _^_, _≤_, _<_}
+use native.Mathlib.Nat.{mod-eq-of-lt, mod-lt, eq-or-lt-of-le}
+use native.Mathlib.Omega.{arith}
+use mathlib.Core.Path.{_≡_, refl, ap, subst, _∙_}
+use mathlib.Core.Logic.{⊎-elim}
+use mathlib.Core.Bool.{Bool, true, false, cond}
+use mathlib.Core.List.{List, [], _∷_, _++_}
+use lib.Dec.{eqb}
+use lib.ListN.{length, drop, getD, length-append, List·getD-append}
+use lib.Seq.{take-all, getD-at}
+use borrow.Author.Tests.{eqb-true}
+use Rattle.model.specs.declared.Pair.{Pair}
+use Rattle.model.specs.declared.CallGate.{CallGate}
+use Rattle.model.specs.declared.Call.{Call}
+use Rattle.model.specs.declared.Call.the-variants.{Empty, Gate, Upcall}
+use Rattle.model.specs.declared.Fixed.{Fixed}
+use Rattle.model.specs.declared.Control.{Control}
+use Rattle.model.specs.Record.{Bank, Machine, returnOf, pairOf, endTickOf}
+use Rattle.model.specs.Ops.{noGate}
+use Rattle.model.proofs.Truth.{and-iff}
+use Rattle.encoder.specs.Layout.{kindOf, gatesWords, wordsOf, holding}
+use Rattle.encoder.proofs.Laws.{length-words}
+use Rattle.decoder.specs.Held.{wordAt, low32, low8, pairFrom, callFrom, callIn, gateIn, tabulate, fixedIn, controlIn, registersIn, recordIn, begins, holds, nothing, machineIn}
+use Rattle.decoder.specs.Typed.{PairTyped, GateTyped, CallTyped, FixedTyped, ControlTyped, BankTyped, Typed}
+use Rattle.decoder.proofs.Lists.{tabulated, begins-itself}
+
+-- ---- a record with every field cut to its width
+
+abbrev cutGate : CallGate → CallGate
+cutGate g = record { entry = low32 (g .entry); pair = pairFrom (g .pair .pc) (g .pair .timing) }
+
+abbrev cutCall : Call → Call
+cutCall k = callFrom (kindOf k) (low32 (returnOf k)) (pairFrom (pairOf k .pc) (pairOf k .timing)) (endTickOf k)
+
+abbrev cutFixed : Fixed → Fixed
+cutFixed f =
+    record {
+      size = low32 (f .size);
+      limit = low32 (f .limit);
+      errorpc = low32 (f .errorpc);
+      count = low32 (f .count);
+      gates = tabulate (λ (k : ℕ). cutGate (getD (f .gates) k noGate)) 8;
+    }
+
+abbrev cutControl : Control → Control
+cutControl c =
+    record {
+      pc = low32 (c .pc);
+      pair = pairFrom (c .pair .pc) (c .pair .timing);
+      clock = low32 (c .clock);
+      first = cutCall (c .first);
+      second = cutCall (c .second);
+      end = low8 (c .end);
+      why = low8 (c .why);
+    }
+
+abbrev cutBank : Bank → Bank
+cutBank b =
+    record {
+      values = tabulate (λ (k : ℕ). low32 (getD (b .values) k 0)) 16;
+      labels = tabulate (λ (k : ℕ). low8 (getD (b .labels) k 0)) 16;
+    }
+
+abbrev cut : Machine → Machine
+cut r = record { fixed = cutFixed (r .fixed); control = cutControl (r .control); registers = cutBank (r .registers) }
+
+-- ---- what is read from a record's words is the record cut
+
+-- A list that is as long as it should be is its elements.
+module _ {A : Type 0} (d : A) where
+  pub elements : {n : ℕ} (xs : List A) → length xs ≡ n → tabulate (λ (k : ℕ). getD xs k d) n ≡ xs
+  elements {n} xs e = tabulated d n xs (omega arith) ∙ take-all n xs (omega arith)
+
+-- The record r with these gates and these registers.
+abbrev parted : Machine → List CallGate → List ℕ → List ℕ → Machine
+parted r gs vs ls =
+    record {
+      fixed =
+          record
+          { size = r .fixed .size; limit = r .fixed .limit; errorpc = r .fixed .errorpc; count = r .fixed .count; gates = gs };
+      control = r .control;
+      registers = record { values = vs; labels = ls };
+    }
+
+-- Where every list is written out, reading computes.
+written-out :
+    (r : Machine) (g : ℕ → CallGate) (v l : ℕ → ℕ) (rest : List ℕ)
+    → recordIn (wordsOf (parted r (tabulate g 8) (tabulate v 16) (tabulate l 16)) ++ rest)
+    ≡ cut (parted r (tabulate g 8) (tabulate v 16) (tabulate l 16))
+unfolding recordIn wordsOf gatesWords fixedIn controlIn registersIn callIn gateIn callFrom tabulate
+written-out r g v l rest = refl
+
+-- What is read from the words of r with these lists is that record cut.
+abbrev IsCut : Machine → List ℕ → List CallGate → List ℕ → List ℕ → Type 0
+IsCut r rest gs vs ls = recordIn (wordsOf (parted r gs vs ls) ++ rest) ≡ cut (parted r gs vs ls)
+
+read-cut :
+    (r : Machine) (rest : List ℕ) → length (r .fixed .gates) ≡ 8 → length (r .registers .values) ≡ 16
+    → length (r .registers .labels) ≡ 16 → recordIn (wordsOf r ++ rest) ≡ cut r
+read-cut r rest g v l =
+    let gs₀ : List CallGate = tabulate (λ (k : ℕ). getD (r .fixed .gates) k noGate) 8 in
+    let vs₀ : List ℕ = tabulate (λ (k : ℕ). getD (r .registers .values) k 0) 16 in
+    subst (λ (gs : List CallGate). IsCut r rest gs (r .registers .values) (r .registers .labels))
+    (elements noGate (r .fixed .gates) g)
+    (subst (λ (vs : List ℕ). IsCut r rest gs₀ vs (r .registers .labels)) (elements 0 (r .registers .values) v)
+    (subst (λ (ls : List ℕ). IsCut r rest gs₀ vs₀ ls) (elements 0 (r .registers .labels) l) (written-out r _ _ _ rest)))
+
+-- ---- a record of the code is left as it is by the cut
+
+tabulate-same : {A : Type 0} (f g : ℕ → A) (n : ℕ) → ((k : ℕ) → k < n → f k ≡ g k) → tabulate f n ≡ tabulate g n
+unfolding tabulate
+tabulate-same f g zero e = refl
+tabulate-same f g (suc n) e =
+    rw (tabulate-same f g n (λ k h. e k (omega arith)), e n (omega arith)) refl
+
+pair-same : (q : Pair) → PairTyped q → pairFrom (q .pc) (q .timing) ≡ q
+pair-same q t = rw (mod-eq-of-lt (t .pc), mod-eq-of-lt (t .timing)) refl
+
+gate-same : (g : CallGate) → GateTyped g → cutGate g ≡ g
+gate-same g t = rw (mod-eq-of-lt (t .entry), pair-same (g .pair) (t .pair)) refl
+
+call-same : (k : Call) → CallTyped k → cutCall k ≡ k
+unfolding callFrom
+call-same Empty t = refl
+call-same (Gate k q) t = rw (mod-eq-of-lt (t .back), pair-same q (t .pair)) refl
+call-same (Upcall k q e) t = rw (mod-eq-of-lt (t .back), pair-same q (t .pair)) refl
+
+fixed-same : (f : Fixed) → FixedTyped f → cutFixed f ≡ f
+fixed-same f t =
+    let gs : tabulate (λ (k : ℕ). cutGate (getD (f .gates) k noGate)) 8 ≡ f .gates
+    = tabulate-same _ (λ (k : ℕ). getD (f .gates) k noGate) 8 (λ k h. gate-same (getD (f .gates) k noGate) (t .gates k h))
+    ∙ elements noGate (f .gates) (t .eight) in
+    rw (mod-eq-of-lt (t .size), mod-eq-of-lt (t .limit), mod-eq-of-lt (t .errorpc), mod-eq-of-lt (t .count), gs) refl
+
+control-same : (c : Control) → ControlTyped c → cutControl c ≡ c
+control-same c t =
+    rw
+    (mod-eq-of-lt (t .pc), pair-same (c .pair) (t .pair), mod-eq-of-lt (t .clock), call-same (c .first) (t .first), call-same (c .second) (t .second), mod-eq-of-lt (t .end), mod-eq-of-lt (t .why))
+    refl
+
+bank-same : (b : Bank) → BankTyped b → cutBank b ≡ b
+bank-same b t =
+    let vs : tabulate (λ (k : ℕ). low32 (getD (b .values) k 0)) 16 ≡ b .values
+    = tabulate-same _ (λ (k : ℕ). getD (b .values) k 0) 16 (λ k h. mod-eq-of-lt (t .values k h))
+    ∙ elements 0 (b .values) (t .sixteen) in
+    let ls : tabulate (λ (k : ℕ). low8 (getD (b .labels) k 0)) 16 ≡ b .labels
+    = tabulate-same _ (λ (k : ℕ). getD (b .labels) k 0) 16 (λ k h. mod-eq-of-lt (t .labels k h))
+    ∙ elements 0 (b .labels) (t .marks) in
+    rw (vs, ls) refl
+
+-- ---- what is read is a record of the code
+
+length-tabulate : {A : Type 0} (f : ℕ → A) (n : ℕ) → length (tabulate f n) ≡ n
+unfolding tabulate
+length-tabulate f zero = refl
+length-tabulate f (suc n) = length-append (tabulate f n) (f n ∷ []) ∙ rw (length-tabulate f n) (omega arith)
+
+getD-tabulate : {A : Type 0} (f : ℕ → A) (n k : ℕ) (d : A) → k < n → getD (tabulate f n) k d ≡ f k
+unfolding tabulate
+getD-tabulate f zero k d h = let z : ⊥ = omega arith in absurd z
+getD-tabulate f (suc n) k d h =
+    let within : k ≤ n = omega arith in
+    ⊎-elim (λ e. rw e (getD-at (tabulate f n) (f n) [] d n (length-tabulate f n)))
+    (λ below.
+    List·getD-append (tabulate f n) (f n ∷ []) d k (rw (length-tabulate f n) below) ∙ getD-tabulate f n k d below)
+    (eq-or-lt-of-le within)
+
+low32-lt : (x : ℕ) → low32 x < 2 ^ 32
+low32-lt x = mod-lt x (omega arith)
+
+low8-lt : (x : ℕ) → low8 x < 2 ^ 8
+low8-lt x = mod-lt x (omega arith)
+
+pair-typed : (p t : ℕ) → PairTyped (pairFrom p t)
+pair-typed p t = record { pc = low8-lt p; timing = low8-lt t }
+
+gate-typed : (b : List ℕ) (i : ℕ) → GateTyped (gateIn b i)
+unfolding gateIn
+gate-typed b i = record { entry = low32-lt (wordAt b i); pair = pair-typed (wordAt b (i + 1)) (wordAt b (i + 2)) }
+
+kept-typed :
+    (gate upcall : Bool) (back : ℕ) (q : Pair) (e : ℕ) → back < 2 ^ 32 → PairTyped q
+    → CallTyped (cond gate (Gate back q) (cond upcall (Upcall back q e) Empty))
+kept-typed true upcall back q e h t = record { back = h; pair = t }
+kept-typed false true back q e h t = record { back = h; pair = t }
+kept-typed false false back q e h t = record { back = omega arith; pair = record { pc = omega arith; timing = omega arith } }
+
+call-typed : (b : List ℕ) (i : ℕ) → CallTyped (callIn b i)
+unfolding callIn callFrom
+call-typed b i =
+    kept-typed (eqb (wordAt b i) 1) (eqb (wordAt b i) 2) (low32 (wordAt b (i + 1)))
+    (pairFrom (wordAt b (i + 2)) (wordAt b (i + 3))) (wordAt b (i + 4)) (low32-lt (wordAt b (i + 1)))
+    (pair-typed (wordAt b (i + 2)) (wordAt b (i + 3)))
+
+fixed-typed : (b : List ℕ) → FixedTyped (fixedIn b)
+unfolding fixedIn
+fixed-typed b =
+    let g : ℕ → CallGate = λ (k : ℕ). gateIn b (4 + 3 * k) in
+    record {
+      size = low32-lt (wordAt b 0);
+      limit = low32-lt (wordAt b 1);
+      errorpc = low32-lt (wordAt b 2);
+      count = low32-lt (wordAt b 3);
+      eight = length-tabulate g 8;
+      gates = λ k h. rw (getD-tabulate g 8 k noGate h) (gate-typed b (4 + 3 * k));
+    }
+
+control-typed : (b : List ℕ) → ControlTyped (controlIn b)
+unfolding controlIn
+control-typed b =
+    record {
+      pc = low32-lt (wordAt b 28);
+      pair = pair-typed (wordAt b 29) (wordAt b 30);
+      clock = low32-lt (wordAt b 31);
+      first = call-typed b 32;
+      second = call-typed b 37;
+      end = low8-lt (wordAt b 42);
+      why = low8-lt (wordAt b 43);
+    }
+
+bank-typed : (b : List ℕ) → BankTyped (registersIn b)
+unfolding registersIn
+bank-typed b =
+    let v : ℕ → ℕ = λ (k : ℕ). low32 (wordAt b (44 + k)) in
+    let l : ℕ → ℕ = λ (k : ℕ). low8 (wordAt b (60 + k)) in
+    record {
+      sixteen = length-tabulate v 16;
+      values = λ k h. rw (getD-tabulate v 16 k 0 h) (low32-lt (wordAt b (44 + k)));
+      marks = length-tabulate l 16;
+      labels = λ k h. rw (getD-tabulate l 16 k 0 h) (low8-lt (wordAt b (60 + k)));
+    }
+
+typed-in : (b : List ℕ) → Typed (recordIn b)
+unfolding recordIn
+typed-in b = record { fixed = fixed-typed b; control = control-typed b; registers = bank-typed b }
+
+-- ---- the laws
+
+-- What is written is read again.
+pub reads-written : (r : Machine) (rest : List ℕ) → Typed r → machineIn (wordsOf r ++ rest) ≡ holds r
+unfolding machineIn
+reads-written r rest t =
+    let e : recordIn (wordsOf r ++ rest) ≡ r
+    = read-cut r rest (t .fixed .eight) (t .registers .sixteen) (t .registers .marks)
+    ∙ rw (fixed-same (r .fixed) (t .fixed), control-same (r .control) (t .control), bank-same (r .registers) (t .registers)) refl in
+    rw (e, begins-itself (wordsOf r) rest) refl
+
+begun : (xs ys : List ℕ) → begins xs ys ≡ true → ys ≡ xs ++ drop (length xs) ys
+unfolding begins
+begun [] ys h = refl
+begun (x ∷ xs) [] h = cc
+begun (x ∷ xs) (y ∷ ys) h =
+    let e : (eqb x y ≡ true) × (begins xs ys ≡ true) = and-iff (eqb x y) (begins xs ys) .0 h in
+    let z : x ≡ y = eqb-true x y (e .0) in
+    rw (z, ← begun xs ys (e .1)) refl
+
+-- What is held in a buffer is what its words give, and they begin it.
+held :
+    (t : Bool) (b : List ℕ) {q r : Machine} → begins (wordsOf q) b ≡ t → cond t (holds q) nothing ≡ holds r
+    → (begins (wordsOf q) b ≡ true) × (q ≡ r)
+held true b e h = (e, cc)
+held false b e h = (cc, cc)
+
+-- What is read was written so: the buffer begins with the words of the record that it holds.
+pub written-read : (b : List ℕ) (r : Machine) → machineIn b ≡ holds r → b ≡ holding r b
+unfolding machineIn
+written-read b r h =
+    let p : (begins (wordsOf (recordIn b)) b ≡ true) × (recordIn b ≡ r) = held (begins (wordsOf (recordIn b)) b) b refl h in
+    rw (← p .1) (begun (wordsOf (recordIn b)) b (p .0) ∙ ap (λ (n : ℕ). wordsOf (recordIn b) ++ drop n b) (length-words (recordIn b) (typed-in b .fixed .eight) (typed-in b .registers .sixteen) (typed-in b .registers .marks)))
+
+-- And it is a record of the code.
+pub typed-read : (b : List ℕ) (r : Machine) → machineIn b ≡ holds r → Typed r
+unfolding machineIn
+typed-read b r h =
+    let p : (begins (wordsOf (recordIn b)) b ≡ true) × (recordIn b ≡ r) = held (begins (wordsOf (recordIn b)) b) b refl h in
+    rw (← p .1) (typed-in b)

@@ -1,0 +1,107 @@
+-- A machine record from words of 64 bits, each at the place where the crate encoder puts it (its specs/Layout.antt), and
+-- whether a buffer holds a record.
+-- Assumes nothing.
+use Prim.Native.Nat.{ℕ, zero, suc, _+_, _*_, _%_, _^_}
+use mathlib.Core.Bool.{Bool, true, false, _&&_, cond}
+use mathlib.Core.List.{List, [], _∷_, _++_}
+use lib.Dec.{eqb}
+use lib.ListN.{getD}
+use Rattle.model.specs.declared.Pair.{Pair}
+use Rattle.model.specs.declared.CallGate.{CallGate}
+use Rattle.model.specs.declared.Fixed.{Fixed}
+use Rattle.model.specs.declared.Control.{Control}
+use Rattle.model.specs.declared.Call.{Call}
+use Rattle.model.specs.declared.Call.the-variants.{Empty, Gate, Upcall}
+use Rattle.model.specs.Record.{Bank, Machine}
+use Rattle.encoder.specs.Layout.{wordsOf}
+
+-- ---- a record from words
+
+-- Word i of a buffer, 0 behind its end.
+abbrev pub wordAt : List ℕ → ℕ → ℕ
+wordAt b i = getD b i 0
+
+-- The part of a word that fits 32 bits.
+abbrev pub low32 : ℕ → ℕ
+low32 x = x % 2 ^ 32
+
+-- The part of a word that fits a label.
+abbrev pub low8 : ℕ → ℕ
+low8 x = x % 2 ^ 8
+
+-- A pair from two words.
+abbrev pub pairFrom : ℕ → ℕ → Pair
+pairFrom p t = record { pc = low8 p; timing = low8 t }
+
+-- A call from its kind, return pc, pair and end tick. An unknown kind gives no call.
+unfoldable pub callFrom : ℕ → ℕ → Pair → ℕ → Call
+callFrom kind back q e = cond (eqb kind 1) (Gate back q) (cond (eqb kind 2) (Upcall back q e) Empty)
+
+-- The call in the five words from i on.
+unfoldable pub callIn : List ℕ → ℕ → Call
+callIn b i =
+    callFrom (wordAt b i) (low32 (wordAt b (i + 1))) (pairFrom (wordAt b (i + 2)) (wordAt b (i + 3))) (wordAt b (i + 4))
+
+-- The gate in the three words from i on.
+unfoldable pub gateIn : List ℕ → ℕ → CallGate
+gateIn b i = record { entry = low32 (wordAt b i); pair = pairFrom (wordAt b (i + 1)) (wordAt b (i + 2)) }
+
+-- The list f 0, f 1, .. of n elements.
+unfoldable pub tabulate : {A : Type 0} → (ℕ → A) → ℕ → List A
+tabulate f zero = []
+tabulate f (suc n) = tabulate f n ++ (f n ∷ [])
+
+-- What no step changes, from its words.
+unfoldable pub fixedIn : List ℕ → Fixed
+fixedIn b =
+    record {
+      size = low32 (wordAt b 0);
+      limit = low32 (wordAt b 1);
+      errorpc = low32 (wordAt b 2);
+      count = low32 (wordAt b 3);
+      gates = tabulate (λ (k : ℕ). gateIn b (4 + 3 * k)) 8;
+    }
+
+-- What a step changes besides registers and memory, from its words.
+unfoldable pub controlIn : List ℕ → Control
+controlIn b =
+    record {
+      pc = low32 (wordAt b 28);
+      pair = pairFrom (wordAt b 29) (wordAt b 30);
+      clock = low32 (wordAt b 31);
+      first = callIn b 32;
+      second = callIn b 37;
+      end = low8 (wordAt b 42);
+      why = low8 (wordAt b 43);
+    }
+
+-- The registers, from their words.
+unfoldable pub registersIn : List ℕ → Bank
+registersIn b =
+    record {
+      values = tabulate (λ (k : ℕ). low32 (wordAt b (44 + k))) 16;
+      labels = tabulate (λ (k : ℕ). low8 (wordAt b (60 + k))) 16;
+    }
+
+-- The record that the words give if each is cut to what its field can hold.
+unfoldable pub recordIn : List ℕ → Machine
+recordIn b = record { fixed = fixedIn b; control = controlIn b; registers = registersIn b }
+
+-- ---- whether a buffer holds a record
+
+-- The list ys begins with xs.
+unfoldable pub begins : List ℕ → List ℕ → Bool
+begins [] ys = true
+begins (x ∷ xs) [] = false
+begins (x ∷ xs) (y ∷ ys) = eqb x y && begins xs ys
+
+-- A record, or none.
+pub data Holding : Type 0 where
+  holds : Machine → Holding
+  nothing : Holding
+
+-- The record that a buffer holds: its words stand at the buffer's start just as they would be written. So there is none
+-- in a buffer shorter than 76 words, nor where a word is not in the range of its field, a kind is unknown, or a word
+-- isn't 0 where a call of its kind keeps nothing.
+unfoldable pub machineIn : List ℕ → Holding
+machineIn b = cond (begins (wordsOf (recordIn b)) b) (holds (recordIn b)) nothing

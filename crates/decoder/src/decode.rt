@@ -1,0 +1,164 @@
+// A record from words: each word is cut to what its field can hold.
+use machine::Machine;
+use model::Call;
+use model::CallGate;
+use model::Control;
+use model::Fixed;
+use model::Pair;
+ghost use mathlib.Core.Path.{_≡_};
+ghost use Prim.Native.Nat.{_<_, _%_, _^_};
+ghost use Rattle.machine.specs.Answered.{recordOf};
+ghost use Rattle.decoder.specs.Held.{wordAt, pairFrom, callFrom, callIn, gateIn, fixedIn, controlIn, registersIn, recordIn};
+
+// Word `at` of the buffer, 0 behind its end.
+fn word(buffer: &[u64], at: usize) -> u64
+    ensures { λ r. ⌜ r ≡ wordAt (now (buffer .entry)) at ⌝ }
+{
+    if at < buffer.len() { buffer[at] } else { 0 }
+}
+
+// The low 32 bits of a word.
+fn low32(x: u64) -> u32
+    ensures { λ r. ⌜ r ≡ x % 2 ^ 32 ⌝ }
+{
+    (x & 0xffff_ffff) as u32
+}
+
+// The low 8 bits of a word.
+fn low8(x: u64) -> u8
+    ensures { λ r. ⌜ r ≡ x % 2 ^ 8 ⌝ }
+{
+    (x & 0xff) as u8
+}
+
+// A pair from two words.
+fn pair_from(pc: u64, timing: u64) -> Pair
+    ensures { λ r. ⌜ r ≡ pairFrom pc timing ⌝ }
+{
+    Pair {
+        pc: low8(pc),
+        timing: low8(timing),
+    }
+}
+
+// A call from its kind, return pc, pair and end tick.
+fn call_from(kind: u64, back: u32, pair: Pair, tick: u64) -> Call
+    ensures { λ r. ⌜ r ≡ callFrom kind back pair tick ⌝ }
+{
+    if kind == 1 {
+        return Call::Gate(back, pair);
+    }
+    if kind == 2 {
+        return Call::Upcall(back, pair, tick);
+    }
+    Call::Empty
+}
+
+// The call in the five words from `at` on.
+fn call_in(buffer: &[u64], at: usize) -> Call
+    requires { ⌜ at < 76 ⌝ }
+    ensures { λ r. ⌜ r ≡ callIn (now (buffer .entry)) at ⌝ }
+{
+    let back = low32(word(buffer, at + 1));
+    let pair = pair_from(word(buffer, at + 2), word(buffer, at + 3));
+    call_from(word(buffer, at), back, pair, word(buffer, at + 4))
+}
+
+// The gate in the three words from `at` on.
+fn gate_in(buffer: &[u64], at: usize) -> CallGate
+    requires { ⌜ at < 76 ⌝ }
+    ensures { λ r. ⌜ r ≡ gateIn (now (buffer .entry)) at ⌝ }
+{
+    let pair = pair_from(word(buffer, at + 1), word(buffer, at + 2));
+    CallGate {
+        entry: low32(word(buffer, at)),
+        pair,
+    }
+}
+
+// The eight gates.
+fn gates_in(buffer: &[u64]) -> [CallGate; 8]
+    ensures { λ r. ⌜ r ≡ fixedIn (now (buffer .entry)) .gates ⌝ }
+{
+    let mut gates = [gate_in(buffer, 4); 8];
+    let mut k = 0;
+    while k < 8 {
+        gates[k] = gate_in(buffer, 4 + 3 * k);
+        k += 1;
+    }
+    gates
+}
+
+// What no step changes.
+fn fixed_in(buffer: &[u64]) -> Fixed
+    ensures { λ r. ⌜ r ≡ fixedIn (now (buffer .entry)) ⌝ }
+{
+    let gates = gates_in(buffer);
+    Fixed {
+        size: low32(word(buffer, 0)),
+        limit: low32(word(buffer, 1)),
+        errorpc: low32(word(buffer, 2)),
+        count: low32(word(buffer, 3)),
+        gates,
+    }
+}
+
+// What a step changes besides registers and memory.
+fn control_in(buffer: &[u64]) -> Control
+    ensures { λ r. ⌜ r ≡ controlIn (now (buffer .entry)) ⌝ }
+{
+    let pair = pair_from(word(buffer, 29), word(buffer, 30));
+    let first = call_in(buffer, 32);
+    let second = call_in(buffer, 37);
+    Control {
+        pc: low32(word(buffer, 28)),
+        pair,
+        clock: low32(word(buffer, 31)),
+        first,
+        second,
+        end: low8(word(buffer, 42)),
+        why: low8(word(buffer, 43)),
+    }
+}
+
+// The sixteen register values.
+fn values_in(buffer: &[u64]) -> [u32; 16]
+    ensures { λ r. ⌜ r ≡ registersIn (now (buffer .entry)) .values ⌝ }
+{
+    let mut values = [0u32; 16];
+    let mut k = 0;
+    while k < 16 {
+        values[k] = low32(word(buffer, 44 + k));
+        k += 1;
+    }
+    values
+}
+
+// The sixteen register labels.
+fn labels_in(buffer: &[u64]) -> [u8; 16]
+    ensures { λ r. ⌜ r ≡ registersIn (now (buffer .entry)) .labels ⌝ }
+{
+    let mut labels = [0u8; 16];
+    let mut k = 0;
+    while k < 16 {
+        labels[k] = low8(word(buffer, 60 + k));
+        k += 1;
+    }
+    labels
+}
+
+// The record that the words give.
+pub fn machine_in(buffer: &[u64]) -> Machine
+    ensures { λ r. ⌜ recordOf r ≡ recordIn (now (buffer .entry)) ⌝ }
+{
+    let fixed = fixed_in(buffer);
+    let control = control_in(buffer);
+    let values = values_in(buffer);
+    let labels = labels_in(buffer);
+    Machine {
+        fixed,
+        control,
+        values,
+        labels,
+    }
+}

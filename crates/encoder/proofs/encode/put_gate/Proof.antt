@@ -1,0 +1,39 @@
+-- `encoder::encode::put_gate` meets its contract. The places are counted by one.
+-- Assumes nothing.
+use native.Mathlib.Numerals.{add-one}
+use mathlib.Core.Path.{refl}
+use borrow.Author.Needs.{needs}
+use Rattle.encoder.proofs.Lists.{two}
+use Rattle.encoder.proofs.encode.put_gate.Statement.{statement}
+use Rattle.encoder.proofs.encode.put_gate.Tie as tie
+
+put32-requires : tie.Need-put32-requires
+put32-requires c κs = search needs
+
+add-put8 : tie.Need-add-put8
+add-put8 c = search needs
+
+put8-requires : tie.Need-put8-requires
+put8-requires c κs = search needs
+
+add-put8-2 : tie.Need-add-put8-2
+add-put8-2 c = search needs
+
+put8-requires-2 : tie.Need-put8-requires-2
+put8-requires-2 c κs = search needs
+
+same-length : tie.Need-same-length
+same-length c = search needs
+
+returns : tie.Need-returns
+returns c =
+    let third = c .before .before in
+    let second = third .before .before .before .before in
+    let first = second .before .before .before .before in
+    let at = first .before .before .before .args .at in
+    rw (third .put82 .ensures, second .put8 .ensures, first .put32 .ensures, add-one at, two at) refl
+
+pub put-gate-spec : {M : Type 1} → statement M
+put-gate-spec =
+    tie.close
+    (tie.spec put32-requires add-put8 put8-requires add-put8-2 put8-requires-2 same-length returns)

@@ -1,0 +1,69 @@
+-- `encoder::encode::put_gates` meets its contract. The loop's invariant: the first k gates are put.
+-- Assumes nothing.
+use Prim.Native.Nat.{ℕ, _-_}
+use native.Mathlib.Omega.{arith}
+use mathlib.Core.Path.{refl}
+use lib.ListN.{getD}
+use borrow.Author.Needs.{needs}
+use Rattle.model.specs.Ops.{noGate}
+use Rattle.encoder.proofs.Laws.{gateWords, put-gates}
+use Rattle.encoder.proofs.Lists.{Put, put-none, put-more, put-length}
+use Rattle.encoder.proofs.encode.put_gates.Statement.{statement}
+use Rattle.encoder.proofs.encode.put_gates.Tie as tie
+
+abbrev Inv-loop : tie.InvT-loop
+Inv-loop buffer₀ gates k₀ buffer k = Put (λ (j : ℕ). gateWords (getD gates j noGate)) 3 8 4 buffer₀ buffer k
+
+abbrev μ-loop : tie.MeasureT-loop
+μ-loop buffer₀ gates k₀ buffer k = 8 - k
+
+loop-holds : tie.Need-loop-holds Inv-loop μ-loop
+loop-holds c = put-none _ 3 8 4 _
+
+mul-put-gate : tie.Need-mul-put-gate Inv-loop μ-loop
+mul-put-gate c = omega arith
+
+array-copy-out-put-gate : tie.Need-array-copy-out-put-gate Inv-loop μ-loop
+array-copy-out-put-gate c = omega arith
+
+mul-put-gate-2 : tie.Need-mul-put-gate-2 Inv-loop μ-loop
+mul-put-gate-2 c = omega arith
+
+add-put-gate : tie.Need-add-put-gate Inv-loop μ-loop
+add-put-gate c = omega arith
+
+put-gate-requires : tie.Need-put-gate-requires Inv-loop μ-loop
+put-gate-requires c κs = omega arith
+
+add-k : tie.Need-add-k Inv-loop μ-loop
+add-k c = omega arith
+
+loop-less : tie.Need-loop-less Inv-loop μ-loop
+loop-less c = omega arith
+
+loop-again : tie.Need-loop-again Inv-loop μ-loop
+loop-again c = put-more (c .before .before .before .before .before .before .loop .inv) (c .before .before .before .before .before .loop-test .taken) (λ j. refl) refl (c .before .before .put-gate .ensures)
+
+same-length : tie.Need-same-length Inv-loop μ-loop
+same-length c = put-length (c .before .loop .inv)
+
+returns : tie.Need-returns Inv-loop μ-loop
+returns c = (put-gates (c .before .before .before .args .t1) (c .before .loop .inv) (c .loop-test .left) (search needs), search needs)
+
+pub put-gates-spec : {M : Type 1} → statement M
+put-gates-spec =
+    tie.close
+    (tie.spec
+    Inv-loop
+    μ-loop
+    loop-holds
+    mul-put-gate
+    array-copy-out-put-gate
+    mul-put-gate-2
+    add-put-gate
+    put-gate-requires
+    add-k
+    loop-less
+    loop-again
+    same-length
+    returns)

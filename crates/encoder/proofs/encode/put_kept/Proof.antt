@@ -1,0 +1,66 @@
+-- `encoder::encode::put_kept` meets its contract. The places are counted by one.
+-- Assumes nothing.
+use native.Mathlib.Numerals.{add-one}
+use mathlib.Core.Path.{refl}
+use borrow.Author.Needs.{needs}
+use Rattle.encoder.proofs.Lists.{two, three, four}
+use Rattle.encoder.proofs.encode.put_kept.Statement.{statement}
+use Rattle.encoder.proofs.encode.put_kept.Tie as tie
+
+put-requires : tie.Need-put-requires
+put-requires c κs = search needs
+
+add-put32 : tie.Need-add-put32
+add-put32 c = search needs
+
+put32-requires : tie.Need-put32-requires
+put32-requires c κs = search needs
+
+add-put8 : tie.Need-add-put8
+add-put8 c = search needs
+
+put8-requires : tie.Need-put8-requires
+put8-requires c κs = search needs
+
+add-put8-2 : tie.Need-add-put8-2
+add-put8-2 c = search needs
+
+put8-requires-2 : tie.Need-put8-requires-2
+put8-requires-2 c κs = search needs
+
+add-put : tie.Need-add-put
+add-put c = search needs
+
+put-requires-2 : tie.Need-put-requires-2
+put-requires-2 c κs = search needs
+
+same-length : tie.Need-same-length
+same-length c = search needs
+
+returns : tie.Need-returns
+returns c =
+    let fifth = c .before .before in
+    let fourth = fifth .before .before .before .before in
+    let third = fourth .before .before .before .before in
+    let second = third .before .before .before .before in
+    let first = second .before .before .before .before in
+    let at = first .before .before .before .args .at in
+    rw
+    (fifth .put2 .ensures, fourth .put82 .ensures, third .put8 .ensures, second .put32 .ensures, first .put .ensures, add-one at, two at, three at, four at)
+    refl
+
+pub put-kept-spec : {M : Type 1} → statement M
+put-kept-spec =
+    tie.close
+    (tie.spec
+    put-requires
+    add-put32
+    put32-requires
+    add-put8
+    put8-requires
+    add-put8-2
+    put8-requires-2
+    add-put
+    put-requires-2
+    same-length
+    returns)

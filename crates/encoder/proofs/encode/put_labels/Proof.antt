@@ -1,0 +1,60 @@
+-- `encoder::encode::put_labels` meets its contract. The loop's invariant: the first k labels are put.
+-- Assumes nothing.
+use Prim.Native.Nat.{ℕ, _-_}
+use native.Mathlib.Omega.{arith}
+use mathlib.Core.List.{_∷_, []}
+use mathlib.Core.Path.{refl}
+use lib.ListN.{getD}
+use borrow.Author.Needs.{needs}
+use Rattle.encoder.proofs.Lists.{Put, put-none, put-more, put-length, put-list}
+use Rattle.encoder.proofs.encode.put_labels.Statement.{statement}
+use Rattle.encoder.proofs.encode.put_labels.Tie as tie
+
+abbrev Inv-loop : tie.InvT-loop
+Inv-loop buffer₀ labels k₀ buffer k = Put (λ (j : ℕ). getD labels j 0 ∷ []) 1 16 60 buffer₀ buffer k
+
+abbrev μ-loop : tie.MeasureT-loop
+μ-loop buffer₀ labels k₀ buffer k = 16 - k
+
+loop-holds : tie.Need-loop-holds Inv-loop μ-loop
+loop-holds c = put-none _ 1 16 60 _
+
+array-read-put8 : tie.Need-array-read-put8 Inv-loop μ-loop
+array-read-put8 c = omega arith
+
+add-put8 : tie.Need-add-put8 Inv-loop μ-loop
+add-put8 c = omega arith
+
+put8-requires : tie.Need-put8-requires Inv-loop μ-loop
+put8-requires c κs = search needs
+
+add-k : tie.Need-add-k Inv-loop μ-loop
+add-k c = omega arith
+
+loop-less : tie.Need-loop-less Inv-loop μ-loop
+loop-less c = omega arith
+
+loop-again : tie.Need-loop-again Inv-loop μ-loop
+loop-again c = put-more (c .before .before .before .before .before .loop .inv) (c .before .before .before .before .loop-test .taken) (λ j. refl) (omega arith) (c .before .before .put8 .ensures)
+
+same-length : tie.Need-same-length Inv-loop μ-loop
+same-length c = put-length (c .before .loop .inv)
+
+returns : tie.Need-returns Inv-loop μ-loop
+returns c = put-list (c .before .before .before .args .t1) (c .before .loop .inv) (c .loop-test .left) (search needs)
+
+pub put-labels-spec : {M : Type 1} → statement M
+put-labels-spec =
+    tie.close
+    (tie.spec
+    Inv-loop
+    μ-loop
+    loop-holds
+    array-read-put8
+    add-put8
+    put8-requires
+    add-k
+    loop-less
+    loop-again
+    same-length
+    returns)

@@ -1,0 +1,64 @@
+-- `encoder::encode::put_values` meets its contract. The loop's invariant: the first k values are put.
+-- Assumes nothing.
+use Prim.Native.Nat.{ℕ, _-_}
+use native.Mathlib.Omega.{arith}
+use mathlib.Core.List.{_∷_, []}
+use mathlib.Core.Path.{refl}
+use lib.ListN.{getD}
+use borrow.Author.Needs.{needs}
+use Rattle.encoder.proofs.Lists.{Put, put-none, put-more, put-length, put-list}
+use Rattle.encoder.proofs.encode.put_values.Statement.{statement}
+use Rattle.encoder.proofs.encode.put_values.Tie as tie
+
+abbrev Inv-loop : tie.InvT-loop
+Inv-loop buffer₀ values k₀ buffer k = Put (λ (j : ℕ). getD values j 0 ∷ []) 1 16 44 buffer₀ buffer k
+
+abbrev μ-loop : tie.MeasureT-loop
+μ-loop buffer₀ values k₀ buffer k = 16 - k
+
+loop-holds : tie.Need-loop-holds Inv-loop μ-loop
+loop-holds c = put-none _ 1 16 44 _
+
+mul-put32 : tie.Need-mul-put32 Inv-loop μ-loop
+mul-put32 c = omega arith
+
+array-read-put32 : tie.Need-array-read-put32 Inv-loop μ-loop
+array-read-put32 c = omega arith
+
+add-put32 : tie.Need-add-put32 Inv-loop μ-loop
+add-put32 c = omega arith
+
+put32-requires : tie.Need-put32-requires Inv-loop μ-loop
+put32-requires c κs = search needs
+
+add-k : tie.Need-add-k Inv-loop μ-loop
+add-k c = omega arith
+
+loop-less : tie.Need-loop-less Inv-loop μ-loop
+loop-less c = omega arith
+
+loop-again : tie.Need-loop-again Inv-loop μ-loop
+loop-again c = put-more (c .before .before .before .before .before .loop .inv) (c .before .before .before .before .loop-test .taken) (λ j. refl) (omega arith) (c .before .before .put32 .ensures)
+
+same-length : tie.Need-same-length Inv-loop μ-loop
+same-length c = put-length (c .before .loop .inv)
+
+returns : tie.Need-returns Inv-loop μ-loop
+returns c = put-list (c .before .before .before .args .t1) (c .before .loop .inv) (c .loop-test .left) (search needs)
+
+pub put-values-spec : {M : Type 1} → statement M
+put-values-spec =
+    tie.close
+    (tie.spec
+    Inv-loop
+    μ-loop
+    loop-holds
+    mul-put32
+    array-read-put32
+    add-put32
+    put32-requires
+    add-k
+    loop-less
+    loop-again
+    same-length
+    returns)
