@@ -1,3 +1,4 @@
 pub mod Ranges
 pub mod Causes
 pub mod Faithful
+pub mod Outcome
