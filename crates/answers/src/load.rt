@@ -42,7 +42,7 @@ impl Verdict {
 }
 
 // The kind of an M or G line.
-const GATE: u8 = 1;
+pub const GATE: u8 = 1;
 
 // The most words of a machine.
 const LARGEST_SIZE: u64 = 2048;

@@ -1,5 +1,6 @@
 // Loading: a text becomes the machine record and the memory that it describes, or is refused. A first pass judges all
 // lines, and only when the last one is accepted does a second pass over the same lines write the lent memory.
+use answers::load::GATE;
 use answers::load::Verdict;
 use answers::load::entry_verdict;
 use answers::load::gate_verdict;
@@ -43,9 +44,6 @@ struct Tried {
     verdict: Verdict,
     progress: Progress,
 }
-
-// The kind of an M or G line.
-const GATE: u8 = 1;
 
 // The kind of an R line.
 const REGISTER: u8 = 2;
