@@ -8,7 +8,6 @@ use answers::load::header_verdict;
 use labels::Label;
 use machine::Machine;
 use model::CallGate;
-use model::Fixed;
 use model::Pair;
 use model::format::Line;
 use reader::read_line;

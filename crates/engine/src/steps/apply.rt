@@ -16,7 +16,7 @@ ghost use mathlib.Core.Bool.{cond};
 ghost use lib.ListN.{getD, set};
 ghost use Rattle.labels.specs.Label.{flows};
 ghost use Rattle.model.specs.declared.Call.the-variants.{Empty};
-ghost use Rattle.model.specs.Record.{returnOf, endTickOf};
+ghost use Rattle.model.specs.Record.{endTickOf};
 ghost use Rattle.engine.specs.Rest.{newestOf, Writes, Held, Admits};
 ghost use Rattle.engine.specs.Apply.{Labelled, Wrote, controlOf, restoredTo, openedTo, Changed, Controlled};
 

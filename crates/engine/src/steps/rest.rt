@@ -20,14 +20,14 @@ use model::Pair;
 ghost use Prim.Native.Nat.{_+_, _^_, _≤_, _<_};
 ghost use mathlib.Core.Path.{_≡_};
 ghost use mathlib.Core.Bool.{true, false, not, cond, _&&_};
-ghost use lib.Dec.{ltb, eqb};
+ghost use lib.Dec.{eqb};
 ghost use lib.ListN.{getD};
 ghost use Rattle.labels.specs.Label.{flows, join, meet, validPair, mayRaise, mayRelabel};
-ghost use Rattle.model.specs.Record.{isEmpty, isGate, isUpcall, pairOf, endTickOf, register};
+ghost use Rattle.model.specs.Record.{isGate, pairOf, register};
 ghost use Rattle.model.specs.Word.{aField, bField, cField, dField};
 ghost use Rattle.model.specs.Ops.{write, goto, nothing, label, enter, openUpcall, openGate, closeGate, isLabel, noGate};
 ghost use Rattle.model.specs.Step.{close, stall, carry};
-ghost use Rattle.engine.specs.Rest.{decisionOf, allowed, newestOf, gateAllowed, Acts, Held, Short, Timely, Rested, Other, Ready, Planned, Limited, Decided};
+ghost use Rattle.engine.specs.Rest.{decisionOf, allowed, gateAllowed, Acts, Held, Short, Timely, Rested, Other, Ready, Planned, Limited, Decided};
 
 // What an op changes that is carried out.
 pub enum Act {
