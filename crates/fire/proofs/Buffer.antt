@@ -1,21 +1,23 @@
--- What the program prints fits its buffer: every reply takes at most 46,438 bytes, for every text and every memory, so
--- that an output of 65,536 bytes is never too short.
+-- What the programs print fits their buffer: every reply takes at most 46,438 bytes, for every text and every memory, so
+-- that an output of 65,536 bytes is never too short. Nor is a memory of 2,048 words and labels.
 -- Assumes nothing.
 use Prim.Native.Nat.{ℕ, _≤_}
-use mathlib.Core.Path.{_≡_}
-use mathlib.Core.List.{List, [], _∷_, _++_}
+use mathlib.Core.Path.{_≡_, refl}
+use mathlib.Core.List.{List, [], _∷_}
 use native.Mathlib.Omega.{arith}
 use lib.Dec.{eqb}
-use lib.ListN.{length, drop}
+use lib.ListN.{length, take, drop, length-append, length-replicate}
+use lib.Seq.{take-append-seam}
 use borrow.Author.Tests.{le-leb, eqb-true}
 use Rattle.model.specs.Record.{Bank, State}
 use Rattle.model.specs.Step.{run}
 use Rattle.model.specs.Load.{load}
 use Rattle.model.specs.Listing.{listing}
-use Rattle.model.specs.Program.{stateOfLoad, reply, memoryAfter, fire}
+use Rattle.model.specs.Program.{stateOfLoad, reply, Firing, fire, fireWhole, programMemory}
 use Rattle.model.proofs.Truth.{choice}
 use Rattle.model.proofs.Step.{Ready}
 use Rattle.model.proofs.Run.{run-leaves}
+use Rattle.model.proofs.Load.{load-not-six}
 use Rattle.model.proofs.Program.{load-ready, run-load-ready}
 use Rattle.writer.proofs.Fields.{line-most}
 use Rattle.printer.proofs.Lines.{head-most, entries-most, listing-length}
@@ -52,12 +54,21 @@ reply-bound text m =
     (λ e. omega (arith, line-most 88 (a .number ∷ a .line ∷ [])))
 
 -- So an output of 65,536 bytes gets the reply whole.
-pub whole-reply : (text : List ℕ) (m : Bank) (out : List ℕ) → 65536 ≤ length out
-    → fire text m out
-    ≡ record {
-      bytes = length (reply (load text m));
-      output = reply (load text m) ++ drop (length (reply (load text m))) out;
-      memory = memoryAfter (load text m);
-    }
-unfolding fire
+pub whole-reply : (text : List ℕ) (m : Bank) (out : List ℕ) → 65536 ≤ length out → fire text m out ≡ fireWhole text m out
+unfolding fire fireWhole
 whole-reply text m out h = rw (le-leb (length (reply (load text m))) (length out) (omega (arith, reply-bound text m)))
+
+-- The bytes that were written count bytes of the output.
+pub whole-counts : (text : List ℕ) (m : Bank) (out : List ℕ) (f : Firing) → f ≡ fireWhole text m out
+    → (f .bytes ≤ length (f .output)) × (f .bytes ≡ length (take (f .bytes) (f .output)))
+unfolding fireWhole
+whole-counts text m out f e =
+    let o = reply (load text m) in
+    rw (e, take-append-seam o (drop (length o) out), length-append o (drop (length o) out)) (omega arith, refl)
+
+-- The program's memory is never too short for a text: its reply is never that of refusal 6.
+pub alone-not-six : (text : List ℕ) → load text programMemory .number ≡ 6 → ⊥
+unfolding programMemory
+alone-not-six text =
+    load-not-six programMemory (rw (length-replicate {A = ℕ} 2048 0) (omega arith)) (rw (length-replicate {A = ℕ} 2048 0) (omega arith))
+    text

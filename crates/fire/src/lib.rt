@@ -3,13 +3,21 @@
 use loader::load;
 use printer::print;
 use writer::write_line;
+ghost use Prim.Native.Nat.{_≤_};
 ghost use mathlib.Core.Path.{_≡_};
+ghost use lib.ListN.{length, take};
 ghost use Rattle.machine.specs.Answered.{lent};
-ghost use Rattle.model.specs.Program.{fire};
-ghost use Rattle.fire.specs.Fired.{fired};
+ghost use Rattle.model.specs.Program.{fire, fireWhole, fireAlone};
+ghost use Rattle.fire.specs.Fired.{fired, replied};
 
 // The letter of a refusal's line.
-const X: u8 = 88;
+const X: u8 = b'X';
+
+// The most words that a machine can have.
+pub const MOST_WORDS: usize = 2048;
+
+// More bytes than any listing has.
+pub const OUTPUT: usize = 65536;
 
 // Fires a text and gives how many bytes of the output it has written. Output that is too short is left as it is, with 0
 // bytes. The memory may hold anything: what lies below the text's size is set anew, the rest is left.
@@ -29,4 +37,28 @@ pub fn fire(text: &[u8], words: &mut [u32], labels: &mut [u8], out: &mut [u8]) -
     let printed = print(last, words, labels, out);
     let outcome = printed.outcome;
     outcome.bytes()
+}
+
+// Fires a text in a memory that has room for every machine and into an output that has room for every reply, and gives
+// how many bytes it has written. The memory may hold anything.
+pub fn fire_whole(
+    text: &[u8],
+    words: &mut [u32; MOST_WORDS],
+    labels: &mut [u8; MOST_WORDS],
+    out: &mut [u8; OUTPUT],
+) -> usize
+    ensures { λ r. ⌜ fired r (now (out .exit)) (now (words .exit)) (now (labels .exit)) ≡ fireWhole (now (text .entry)) (lent (now (words .entry)) (now (labels .entry))) (now (out .entry)) ⌝ }
+    ensures { λ r. ⌜ (r ≤ length (now (out .exit))) × (r ≡ length (take r (now (out .exit)))) ⌝ }
+{
+    fire(text, words, labels, out)
+}
+
+// The same in a memory of its own, all 0: what the program `firing` prints for a text.
+pub fn fire_alone(text: &[u8], out: &mut [u8; OUTPUT]) -> usize
+    ensures { λ r. ⌜ replied r (now (out .exit)) ≡ fireAlone (now (text .entry)) (now (out .entry)) ⌝ }
+    ensures { λ r. ⌜ (r ≤ length (now (out .exit))) × (r ≡ length (take r (now (out .exit)))) ⌝ }
+{
+    let mut words = [0u32; MOST_WORDS];
+    let mut labels = [0u8; MOST_WORDS];
+    fire_whole(text, &mut words, &mut labels, out)
 }

@@ -1,5 +1,5 @@
 -- An accepted load leaves a state as the theorem wants it: well-formed and running at clock 0 with no open call, its memory
--- whole, its numbers in their ranges.
+-- whole, its numbers in their ranges. And a memory of 2,048 words and labels is never too short for a load.
 -- Assumes nothing.
 use Prim.Native.Nat.{ℕ, _+_, _^_, _<_, _≤_, zero-le}
 use mathlib.Core.Path.{_≡_, refl, ap, _∙_, subst}
@@ -23,7 +23,7 @@ use Rattle.model.specs.Text.{lines}
 use Rattle.model.specs.Load.{machineOfHeader, withGate, withRegister, withEntry, headerInRange, gateInRange, entryInRange, leastOf, Progress, Verdict, refuse, accept, tried, judge, cleared, fill, Loading, settle, loadLines, load}
 use Rattle.model.specs.Noninterference.{Loaded}
 use Rattle.model.specs.Program.{stateOfLoad}
-use Rattle.model.proofs.Truth.{choice, either, and-iff}
+use Rattle.model.proofs.Truth.{choice, either, and-iff, clash}
 use Rattle.model.proofs.WellFormed.{FixedFit, none, fit, fits}
 use Rattle.model.proofs.Step.{Ready, below-set}
 
@@ -136,18 +136,18 @@ tried-accept g n kind inRange rising more r e = go (leb (g .kind) kind) inRange 
     go true false c e = absurd (refuse-accept e)
     go false b c e = absurd (refuse-accept e)
 
--- A refusal has a number that isn't 0.
+-- A refusal of a line has a number from 1 to 5.
 data Numbered : Verdict → Type 0 where
-  numbered : {n l : ℕ} → (n ≡ 0 → ⊥) → Numbered (refuse n l)
+  numbered : {n l : ℕ} → 1 ≤ n → n ≤ 5 → Numbered (refuse n l)
   granted : {r : Machine} → Numbered (accept r)
 
--- A line's verdict has a number that isn't 0 where that of the lines behind it has.
+-- A line's verdict has such a number where that of the lines behind it has.
 tried-numbered : (g : Progress) (n kind : ℕ) (inRange rising : Bool) {more : Verdict} → Numbered more
     → Numbered (tried g n kind inRange rising more)
 tried-numbered g n kind inRange rising h =
     choice Numbered (leb (g .kind) kind) _ _
-    (λ a. choice Numbered inRange _ _ (λ b. choice Numbered rising _ _ (λ c. h) (λ c. numbered {n = 4} (omega arith))) (λ b. numbered {n = 3} (omega arith)))
-    (λ a. numbered {n = 4} (omega arith))
+    (λ a. choice Numbered inRange _ _ (λ b. choice Numbered rising _ _ (λ c. h) (λ c. numbered {n = 4} (omega arith) (omega arith))) (λ b. numbered {n = 3} (omega arith) (omega arith)))
+    (λ a. numbered {n = 4} (omega arith) (omega arith))
 
 -- How far the lines have come after a G, an R and a W line.
 abbrev afterGate : Progress → ℕ → ℕ → ℕ → Progress
@@ -253,17 +253,17 @@ in-order-loaded r m h =
 judge-numbered : (g : Progress) (n : ℕ) (ls : List Line) → Numbered (judge g n ls)
 unfolding judge
 judge-numbered g n [] = granted
-judge-numbered g n (M a b c d e f ∷ ls) = numbered {n = 4} (omega arith)
+judge-numbered g n (M a b c d e f ∷ ls) = numbered {n = 4} (omega arith) (omega arith)
 judge-numbered g n (G pc p t ∷ ls) = tried-numbered g n 1 (gateInRange (g .machine .fixed .count) pc p t) true (judge-numbered (afterGate g pc p t) (n + 1) ls)
 judge-numbered g n (R k l v ∷ ls) = tried-numbered g n 2 (entryInRange 16 k l v) (leb (leastOf g 2) k) (judge-numbered (afterRegister g k l v) (n + 1) ls)
 judge-numbered g n (W k l v ∷ ls) = tried-numbered g n 3 (entryInRange (g .machine .fixed .size) k l v) (leb (leastOf g 3) k) (judge-numbered (afterWord g k) (n + 1) ls)
-judge-numbered g n (Malformed ∷ ls) = numbered {n = 2} (omega arith)
+judge-numbered g n (Malformed ∷ ls) = numbered {n = 2} (omega arith) (omega arith)
 
 -- A verdict of acceptance leaves a loaded state.
 settled : (v : Verdict) (ls : List Line) (m : Bank) → Numbered v
     → ((r : Machine) → v ≡ accept r → Loaded (stateOf r (fill ls (cleared (r .fixed .size) m)))) → settle v ls m .number ≡ 0
     → Loaded (stateOfLoad (settle v ls m))
-settled (refuse n l) ls m (numbered u) f e = absurd (u e)
+settled (refuse n l) ls m (numbered low high) f e = absurd (omega arith)
 settled (accept r) ls m granted f e = f r refl
 
 -- The lines behind the first leave the size.
@@ -317,6 +317,52 @@ pub load-loaded : (text : List ℕ) (m : Bank) → load text m .number ≡ 0 →
 unfolding load
 load-loaded text m =
     choice Leaves (leb 1 (length text) && leb (length text) 65535) _ _ (λ h. lines-loaded (lines text) m) (λ h e. absurd (omega arith))
+
+-- ---- memory that is never too short
+
+-- The number of a load isn't 6.
+abbrev NotSix : Loading → Type 0
+NotSix a = a .number ≡ 6 → ⊥
+
+settled-not-six : (v : Verdict) (ls : List Line) (m : Bank) → Numbered v → NotSix (settle v ls m)
+settled-not-six (refuse n l) ls m (numbered low high) e = omega arith
+settled-not-six (accept r) ls m granted e = omega arith
+
+-- The size of an M line in its ranges is at most 2,048.
+header-size : (size errorpc pc p t limit : ℕ) → headerInRange size errorpc pc p t limit ≡ true → size ≤ 2048
+unfolding headerInRange
+header-size size errorpc pc p t limit e = let h = simp and-iff at e in leb-true size 2048 (h .0 .0 .0 .0 .0 .0 .1)
+
+module _ (m : Bank) (words : 2048 ≤ length (m .values)) (labels : 2048 ≤ length (m .labels)) where
+  lent-enough : (size errorpc pc p t limit : ℕ) → headerInRange size errorpc pc p t limit ≡ true
+      → lentWhole (machineOfHeader size errorpc pc p t limit .fixed) (m .values) (m .labels) ≡ true
+  unfolding lentWhole
+  lent-enough size errorpc pc p t limit e =
+      let h = header-size size errorpc pc p t limit e in
+      rw (le-leb size (length (m .values)) (omega arith), le-leb size (length (m .labels)) (omega arith))
+
+  lines-not-six : (ls : List Line) → NotSix (loadLines ls m)
+  lines-not-six [] = λ e. omega arith
+  lines-not-six (M size errorpc pc p t limit ∷ ls) =
+      choice NotSix (headerInRange size errorpc pc p t limit) _ _
+      (λ h.
+      choice NotSix (isValid (record { pc = p; timing = t })) _ _
+      (λ v.
+      choice NotSix (lentWhole (machineOfHeader size errorpc pc p t limit .fixed) (m .values) (m .labels)) _ _
+      (λ l. settled-not-six _ ls m (judge-numbered _ 2 ls))
+      (λ l. clash (lent-enough size errorpc pc p t limit h) l))
+      (λ v e. omega arith))
+      (λ h e. omega arith)
+  lines-not-six (G a b c ∷ ls) = λ e. omega arith
+  lines-not-six (R a b c ∷ ls) = λ e. omega arith
+  lines-not-six (W a b c ∷ ls) = λ e. omega arith
+  lines-not-six (Malformed ∷ ls) = λ e. omega arith
+
+  -- Into 2,048 words and labels no load is refused with 6.
+  pub load-not-six : (text : List ℕ) → load text m .number ≡ 6 → ⊥
+  unfolding load
+  load-not-six text =
+      choice NotSix (leb 1 (length text) && leb (length text) 65535) _ _ (λ h. lines-not-six (lines text)) (λ h e. omega arith)
 
 -- A loaded state is ready.
 pub loaded-ready : (s : State) → Loaded s → Ready s

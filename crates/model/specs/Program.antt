@@ -4,7 +4,7 @@ use Prim.Native.Nat.{ℕ}
 use mathlib.Core.Bool.{cond}
 use mathlib.Core.List.{List, [], _∷_, _++_}
 use lib.Dec.{leb, eqb}
-use lib.ListN.{length, drop}
+use lib.ListN.{length, drop, replicate}
 use Rattle.model.specs.Record.{Bank, State, stateOf}
 use Rattle.model.specs.Step.{run}
 use Rattle.model.specs.Load.{Loading, load}
@@ -35,3 +35,26 @@ fire text m out =
     cond (leb (length o) (length out))
     (record { bytes = length o; output = o ++ drop (length o) out; memory = memoryAfter (load text m) })
     (record { bytes = 0; output = out; memory = memoryAfter (load text m) })
+
+-- ---- the programs, whose memory and output have room for every text
+
+-- A text fired where the output is longer than any reply: the reply stands whole at its start.
+unfoldable pub fireWhole : List ℕ → Bank → List ℕ → Firing
+fireWhole text m out =
+    let o = reply (load text m) in
+    record { bytes = length o; output = o ++ drop (length o) out; memory = memoryAfter (load text m) }
+
+-- The memory of the program `firing`: 2,048 words and as many labels, the most that a machine can have, all 0 before the
+-- load.
+unfoldable pub programMemory : Bank
+programMemory = record { values = replicate 2048 0; labels = replicate 2048 0 }
+
+-- What the program prints: how many bytes, and the output that holds them at its start.
+pub record Replied : Type 0 where
+  pub bytes : ℕ
+  pub output : List ℕ
+
+-- A text fired in that memory.
+unfoldable pub fireAlone : List ℕ → List ℕ → Replied
+fireAlone text out =
+    let f = fireWhole text programMemory out in record { bytes = f .bytes; output = f .output }
