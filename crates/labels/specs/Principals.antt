@@ -1,5 +1,6 @@
 -- Labels over any number n of principals, in the order of document 01, "Labels". A label is the number i × 2^n + c.
--- Its integrity i (the paper's trust) and its confidentiality c (its secrecy) are sets of principals, one bit each.
+-- Its integrity i (the paper's trust: by whom a thing is trusted) and its confidentiality c (its secrecy: whose secrets it
+-- may hold) are sets of principals, one bit each.
 -- Assumes nothing.
 use Prim.Native.Nat.{ℕ, _+_, _-_, _*_, _/_, _%_, _^_}
 use mathlib.Core.Bool.{Bool, _&&_}
@@ -47,11 +48,11 @@ module _ (n : ℕ) where
   unfoldable pub validPair : ℕ → ℕ → Bool
   validPair p t = flows p t && uncompromised p && uncompromised t
 
-  -- The lowest label: trusted by all, secret to none.
+  -- The lowest label: trusted by all, nobody's secret.
   unfoldable pub lowest : ℕ
   lowest = label (2 ^ n - 1) 0
 
-  -- The highest label: trusted by none, secret to all.
+  -- The highest label: trusted by none; it may hold everyone's secrets.
   unfoldable pub highest : ℕ
   highest = label 0 (2 ^ n - 1)
 

@@ -1,6 +1,6 @@
-// Labels: who vouches for a value (integrity) and who must not learn it (confidentiality), with the rules by which
-// they flow. A label is a byte, its integrity in the high half and its confidentiality in the low half, one bit for
-// each principal. Every rule works on whole bytes, with neither branch nor table. Usable without the machine.
+// Labels: by whom a value is trusted (integrity) and whose secrets it may hold (confidentiality), with the rules by
+// which they flow. A label is a byte, its integrity in the high half and its confidentiality in the low half, one bit
+// for each principal. Every rule works on whole bytes, with neither branch nor table. Usable without the machine.
 //
 // Flow, join and meet turn the bits of the integrity first. What is then set is a restriction, in either half: a join has
 // those of both labels, a meet those that they share, and a label flows to one that has all of its own.
@@ -16,13 +16,13 @@ const INTEGRITY: u8 = 240;
 const CONFIDENTIALITY: u8 = 15;
 
 impl Label {
-    // Trusted by all, secret to none.
+    // Trusted by all, nobody's secret.
     pub const LOWEST: Label = Label(240);
-    // Trusted by none, secret to all.
+    // Trusted by none; it may hold everyone's secrets.
     pub const HIGHEST: Label = Label(15);
 
-    // Whether what bears this label may reach what bears `to`: `to` is vouched for by no one else and kept from all
-    // that this one is kept from.
+    // Whether what bears this label may reach what bears `to`: all who trust `to` trust this one, and `to` may hold the
+    // secrets of all whose this one may hold.
     pub fn flows_to(self, to: Label) -> bool
         ensures { λ r. ⌜ r ≡ flows (self .0) (to .0) ⌝ }
     {
@@ -50,7 +50,7 @@ impl Label {
         Label(self.0 % 16 * 16 + self.0 / 16)
     }
 
-    // Whether everyone from whom this is kept vouches for it.
+    // Whether all whose secrets this may hold trust it.
     pub fn is_uncompromised(self) -> bool
         ensures { λ r. ⌜ r ≡ uncompromised (self .0) ⌝ }
     {
