@@ -1,11 +1,12 @@
-/* The labelled kiln machine: load, step, run and print over buffers that the caller lends.
+/* The labelled kiln machine: load, step, run and print over buffers that the caller lends, and the label rules.
  *
- * Every call gets each buffer as a pointer and a length in elements. A pointer is aligned and not null, at length 0 too;
+ * A call gets each buffer as a pointer and a length in elements. A pointer is aligned and not null, at length 0 too;
  * a buffer that a call may change overlaps no other one. Nothing is kept between calls. No call reads or writes behind
  * a length that it was given. */
 #ifndef JENNYDUSK_H
 #define JENNYDUSK_H
 
+#include <stdbool.h>
 #include <stddef.h>
 #include <stdint.h>
 
@@ -64,29 +65,55 @@ extern "C" {
 #define JENNYDUSK_ORDER 4        /* a kind out of order, a second M, a number that isn't rising */
 #define JENNYDUSK_PAIR 5         /* the pair of the M line is not valid */
 #define JENNYDUSK_SHORT_MEMORY 6 /* words or labels shorter than the size */
-#define JENNYDUSK_NO_RECORD 7    /* the record is not well-formed, or the buffer holds none: it is shorter than
-                                  * JENNYDUSK_SPAN, or a word is outside its field's range, or a call's words are none */
+#define JENNYDUSK_NO_RECORD 7    /* the record is not well-formed, or the buffer holds none: a word is outside its
+                                  * field's range, or a call's words are none */
 #define JENNYDUSK_SHORT_OUTPUT 8 /* the output is shorter than the listing */
+#define JENNYDUSK_SHORT_BUFFER 255 /* the record's buffer is shorter than JENNYDUSK_SPAN */
 
-/* ---- the calls. A refused call leaves the record, words, labels and output as they were. */
+/* ---- the calls. A refused call leaves the record, words, labels and output as they were. Each of the four answers
+ * JENNYDUSK_SHORT_BUFFER where the record's buffer is too short, before it reads anything. */
 
-/* Loads a text. The record goes to its buffer, the memory to words and labels below the size. Answers a number, 0 to 7,
- * and 256 times the line that was refused. A record buffer shorter than JENNYDUSK_SPAN is 7, before the text is read. A
- * load sets the words of the gates that no line names to 0. */
+/* Loads a text. The record goes to its buffer, the memory to words and labels below the size. Answers a number, 0 to 6
+ * or 255, and 256 times the line that was refused. A load sets the words of the gates that no line names to 0. */
 uint64_t jennydusk_load(const uint8_t *text, size_t text_length, uint32_t *words, size_t words_length, uint8_t *labels,
                         size_t labels_length, uint64_t *record, size_t record_length);
 
-/* Does one step. Answers 0, 6 or 7. An ended record steps to itself. */
+/* Does one step. Answers 0, 6, 7 or 255. An ended record steps to itself. */
 uint64_t jennydusk_step(uint64_t *record, size_t record_length, uint32_t *words, size_t words_length, uint8_t *labels,
                         size_t labels_length);
 
-/* Steps until the end isn't 0. Answers 0, 6 or 7. */
+/* Steps until the end isn't 0. Answers 0, 6, 7 or 255. */
 uint64_t jennydusk_run(uint64_t *record, size_t record_length, uint32_t *words, size_t words_length, uint8_t *labels,
                        size_t labels_length);
 
-/* Writes the listing at the start of the output. Answers 0 and 256 times the listing's length, or 6, 7 or 8. */
+/* Writes the listing at the start of the output. Answers 0 and 256 times the listing's length, or 6, 7, 8 or
+ * 255. */
 uint64_t jennydusk_print(const uint64_t *record, size_t record_length, const uint32_t *words, size_t words_length,
                          const uint8_t *labels, size_t labels_length, uint8_t *output, size_t output_length);
+
+/* ---- labels: the byte i * 16 + c. The integrity i is the set of those by whom a thing is trusted, the confidentiality c
+ * the set of those whose secrets it may hold. There are four principals, one bit each. Every byte is a label. */
+#define JENNYDUSK_LOWEST 240 /* trusted by all, and no secret */
+#define JENNYDUSK_HIGHEST 15 /* trusted by none, and a secret of all */
+
+/* Whether what bears the label `from` may reach what bears `to`: all by whom `to` is trusted trust `from` too, and `to`
+ * may hold the secrets of all whose secrets `from` may hold. */
+bool jennydusk_flows(uint8_t from, uint8_t to);
+
+/* The lowest label that both flow to: trusted by those who trust both, for the secrets of all in either. */
+uint8_t jennydusk_join(uint8_t one, uint8_t other);
+
+/* The highest label that flows to both: trusted by those who trust either, for the secrets of those in both. */
+uint8_t jennydusk_meet(uint8_t one, uint8_t other);
+
+/* The label with i and c exchanged. */
+uint8_t jennydusk_reflection(uint8_t label);
+
+/* Whether a label is sound: it is trusted by all whose secrets it may hold. */
+bool jennydusk_is_sound(uint8_t label);
+
+/* Whether a pc label and a timing label make a valid pair: the one flows to the other, and both are sound. */
+bool jennydusk_is_valid_pair(uint8_t pc, uint8_t timing);
 
 #ifdef __cplusplus
 }

@@ -1,4 +1,5 @@
-/* Calls the library on buffers that it must refuse, and sees that they are left. Prints what went wrong. */
+/* Calls the library on buffers that it must refuse, and sees that they are left; and its label rules on every label,
+ * beside those of document 01 as they are written here. Prints what went wrong. */
 #include "jennydusk.h"
 
 #include <stdio.h>
@@ -35,12 +36,16 @@ static uint64_t load(const char *text, size_t size, size_t span) {
 
 static uint64_t step(size_t size, size_t span) { return jennydusk_step(record, span, words, size, labels, size); }
 
-static uint64_t print(size_t length) {
-    return jennydusk_print(record, JENNYDUSK_SPAN, words, SIZE, labels, SIZE, output, length);
+static uint64_t run(size_t span) { return jennydusk_run(record, span, words, SIZE, labels, SIZE); }
+
+static uint64_t print(size_t length, size_t span) {
+    return jennydusk_print(record, span, words, SIZE, labels, SIZE, output, length);
 }
 
-int main(void) {
-    const char *image = "M,2,1,0,240,240,5\nW,0,240,17825797\n"; /* Ra := 5, and no op behind it */
+static const char image[] = "M,2,1,0,240,240,5\nW,0,240,17825797\n"; /* Ra := 5, and no op behind it */
+
+/* The table's refusals of a load; no call has written yet. */
+static void try_refused_loads(void) {
     memset(record, 1, sizeof record);
     memset(words, 2, sizeof words);
     memset(labels, 3, sizeof labels);
@@ -50,25 +55,117 @@ int main(void) {
     expect("bad line", load("M,2,1,0,240,240,5\nW,0,240\n", SIZE, JENNYDUSK_SPAN), JENNYDUSK_MALFORMED, 2);
     expect("not rising", load("M,2,1,0,240,240,5\nW,1,240,1\nW,0,240,1\n", SIZE, JENNYDUSK_SPAN), JENNYDUSK_ORDER, 3);
     expect("short words", load(image, SIZE - 1, JENNYDUSK_SPAN), JENNYDUSK_SHORT_MEMORY, 1);
-    expect("short record", load(image, SIZE, JENNYDUSK_SPAN - 1), JENNYDUSK_NO_RECORD, 0);
     expect("step of no record", step(SIZE, JENNYDUSK_SPAN), JENNYDUSK_NO_RECORD, 0);
+}
+
+/* A record buffer of this many words is too short for each of the four calls, whatever else they are given. */
+static void try_short_buffer(size_t span) {
+    expect("load to a short buffer", load(image, SIZE, span), JENNYDUSK_SHORT_BUFFER, 0);
+    expect("load of no text to a short buffer", load("", 0, span), JENNYDUSK_SHORT_BUFFER, 0);
+    expect("step of a short buffer", step(SIZE, span), JENNYDUSK_SHORT_BUFFER, 0);
+    expect("step of a short buffer and no words", step(0, span), JENNYDUSK_SHORT_BUFFER, 0);
+    expect("run of a short buffer", run(span), JENNYDUSK_SHORT_BUFFER, 0);
+    expect("print of a short buffer", print(sizeof output, span), JENNYDUSK_SHORT_BUFFER, 0);
+    expect("print of a short buffer to no output", print(0, span), JENNYDUSK_SHORT_BUFFER, 0);
+}
+
+/* An image is loaded, stepped, printed and run. Buffers too short are tried where they hold the start of a record. */
+static void try_calls(void) {
     expect("load", load(image, SIZE, JENNYDUSK_SPAN + 1), JENNYDUSK_DONE, 0);
-    expect("step of a short record", step(SIZE, JENNYDUSK_SPAN - 1), JENNYDUSK_NO_RECORD, 0);
+    try_short_buffer(JENNYDUSK_SPAN - 1);
+    try_short_buffer(0);
     expect("step of short words", step(SIZE - 1, JENNYDUSK_SPAN), JENNYDUSK_SHORT_MEMORY, 0);
     expect("step", step(SIZE, JENNYDUSK_SPAN), JENNYDUSK_DONE, 0);
-    if (record[JENNYDUSK_VALUE(1)] != 5 || record[JENNYDUSK_PC] != 1 || record[JENNYDUSK_CLOCK] != 1 || record[JENNYDUSK_SPAN] != 0x0101010101010101)
+    if (record[JENNYDUSK_VALUE(1)] != 5 || record[JENNYDUSK_PC] != 1 || record[JENNYDUSK_CLOCK] != 1
+        || record[JENNYDUSK_SPAN] != 0x0101010101010101)
         wrong = 1, puts("step: another record");
-    expect("short output", print(8), JENNYDUSK_SHORT_OUTPUT, 0);
-    expect("print", print(sizeof output), JENNYDUSK_DONE, strlen("E,0,0,1,1,240,240\nR,1,240,5\nW,0,240,17825797\n"));
-    expect("run", jennydusk_run(record, JENNYDUSK_SPAN, words, SIZE, labels, SIZE), JENNYDUSK_DONE, 0);
+    expect("short output", print(8, JENNYDUSK_SPAN), JENNYDUSK_SHORT_OUTPUT, 0);
+    expect("print", print(sizeof output, JENNYDUSK_SPAN), JENNYDUSK_DONE,
+           strlen("E,0,0,1,1,240,240\nR,1,240,5\nW,0,240,17825797\n"));
+    expect("run", run(JENNYDUSK_SPAN), JENNYDUSK_DONE, 0);
     if (record[JENNYDUSK_END] != JENNYDUSK_STALLED || record[JENNYDUSK_WHY] != JENNYDUSK_WHY_OP)
         wrong = 1, puts("run: another end");
+}
+
+/* Words that are no record, in a buffer that is long enough. */
+static void try_no_records(void) {
     record[JENNYDUSK_CALL(0)] = 3;
     keep();
-    expect("unknown kind", print(sizeof output), JENNYDUSK_NO_RECORD, 0);
+    expect("unknown kind", print(sizeof output, JENNYDUSK_SPAN), JENNYDUSK_NO_RECORD, 0);
     record[JENNYDUSK_CALL(0)] = JENNYDUSK_EMPTY;
     record[JENNYDUSK_LABEL(2)] = 256;
     keep();
     expect("label out of range", step(SIZE, JENNYDUSK_SPAN), JENNYDUSK_NO_RECORD, 0);
+}
+
+/* ---- labels, as document 01 has them: "A label is a byte, i * 16 + c." */
+
+#define LABELS 256
+
+static unsigned trust(unsigned label) { return label / 16; }
+
+static unsigned secrecy(unsigned label) { return label % 16; }
+
+/* Every principal of the one set is in the other. */
+static bool subset(unsigned one, unsigned other) {
+    for (unsigned principal = 1; principal < 16; principal *= 2)
+        if (one / principal % 2 > other / principal % 2)
+            return false;
+    return true;
+}
+
+/* "when i' is a subset of i and c a subset of c'" */
+static bool flows(unsigned from, unsigned to) {
+    return subset(trust(to), trust(from)) && subset(secrecy(from), secrecy(to));
+}
+
+/* "The join is (i and i', c or c')" */
+static unsigned join(unsigned a, unsigned b) { return (trust(a) & trust(b)) * 16 + (secrecy(a) | secrecy(b)); }
+
+/* "the meet is (i or i', c and c')" */
+static unsigned meet(unsigned a, unsigned b) { return (trust(a) | trust(b)) * 16 + (secrecy(a) & secrecy(b)); }
+
+/* "the reflection swaps i and c" */
+static unsigned reflection(unsigned label) { return secrecy(label) * 16 + trust(label); }
+
+/* "sound when c is a subset of i" */
+static bool sound(unsigned label) { return subset(secrecy(label), trust(label)); }
+
+/* "valid when p flows to t and both are sound" */
+static bool valid(unsigned p, unsigned t) { return flows(p, t) && sound(p) && sound(t); }
+
+static void expect_label(const char *what, unsigned a, unsigned b, unsigned answer, unsigned wanted) {
+    if (answer == wanted)
+        return;
+    printf("%s of %u and %u: %u, not %u\n", what, a, b, answer, wanted);
+    wrong = 1;
+}
+
+static void try_pair(unsigned a, unsigned b) {
+    expect_label("flows", a, b, jennydusk_flows(a, b), flows(a, b));
+    expect_label("join", a, b, jennydusk_join(a, b), join(a, b));
+    expect_label("meet", a, b, jennydusk_meet(a, b), meet(a, b));
+    expect_label("valid pair", a, b, jennydusk_is_valid_pair(a, b), valid(a, b));
+}
+
+static void try_label(unsigned a) {
+    expect_label("reflection", a, a, jennydusk_reflection(a), reflection(a));
+    expect_label("sound", a, a, jennydusk_is_sound(a), sound(a));
+    expect_label("flow from the lowest", JENNYDUSK_LOWEST, a, jennydusk_flows(JENNYDUSK_LOWEST, a), true);
+    expect_label("flow to the highest", a, JENNYDUSK_HIGHEST, jennydusk_flows(a, JENNYDUSK_HIGHEST), true);
+}
+
+static void try_labels(void) {
+    for (unsigned a = 0; a < LABELS; a++)
+        try_label(a);
+    for (unsigned both = 0; both < LABELS * LABELS; both++)
+        try_pair(both / LABELS, both % LABELS);
+}
+
+int main(void) {
+    try_refused_loads();
+    try_calls();
+    try_no_records();
+    try_labels();
     return wrong;
 }

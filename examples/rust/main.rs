@@ -10,7 +10,11 @@ unsafe extern "C" {
     fn jennydusk_print(record: *const u64, record_length: usize, words: *const u32, words_length: usize, labels: *const u8, labels_length: usize, output: *mut u8, output_length: usize) -> u64;
 }
 
+// JENNYDUSK_SPAN and JENNYDUSK_DONE. An answer is a number below NUMBERS, with a line or a length above it.
 const SPAN: usize = 76;
+const DONE: u64 = 0;
+const NUMBERS: u64 = 256;
+
 const SIZE: usize = 8;
 const IMAGE: &[u8] = b"M,8,7,0,240,240,100\nW,0,240,17825797\nW,1,240,34672640\nW,2,240,369098752\n";
 
@@ -19,14 +23,14 @@ fn main() {
     let (r, w, l) = (record.as_mut_ptr(), words.as_mut_ptr(), labels.as_mut_ptr());
     // Every pointer is that of an array of the length beside it.
     let mut answer = unsafe { jennydusk_load(IMAGE.as_ptr(), IMAGE.len(), w, SIZE, l, SIZE, r, SPAN) };
-    if answer == 0 {
+    if answer == DONE {
         answer = unsafe { jennydusk_run(r, SPAN, w, SIZE, l, SIZE) };
     }
-    if answer == 0 {
+    if answer == DONE {
         answer = unsafe { jennydusk_print(r, SPAN, w, SIZE, l, SIZE, output.as_mut_ptr(), output.len()) };
     }
-    let (number, count) = (answer % 256, (answer / 256) as usize);
-    if number != 0 {
+    let (number, count) = (answer % NUMBERS, (answer / NUMBERS) as usize);
+    if number != DONE {
         println!("X,{number},{count}");
         std::process::exit(1);
     }

@@ -3,6 +3,7 @@
 use Prim.Native.Nat.{ℕ, _^_, _≤_}
 use native.Mathlib.Omega.{arith}
 use mathlib.Core.Path.{_≡_, refl, ap, _∙_}
+use mathlib.Core.Bool.{Bool, true, false}
 use mathlib.Core.List.{List}
 use Rattle.model.specs.Record.{Bank, Machine}
 use Rattle.model.specs.Answer as model
@@ -23,8 +24,17 @@ use Rattle.decoder.specs.declared.Reading.{Reading}
 use Rattle.decoder.specs.declared.Found.the-variants as found
 use Rattle.decoder.specs.Held.{Holding, holds, nothing}
 use Rattle.decoder.specs.Reading.{Read, given, isFound, readOf}
-use Rattle.jennydusk.specs.Calls.{left, untouched, kept, afterAnswer, called, counted, afterLoading, shown, afterPrinting, printed}
+use Rattle.jennydusk.specs.Calls.{shortBuffer, noRecord, isShort, unlessShort, left, untouched, kept, afterAnswer, called, counted, afterLoading, shown, afterPrinting, unwritten, printed}
 use Rattle.jennydusk.proofs.Length.{bytes-most}
+
+-- ---- what all four calls try before everything else
+
+module _ {A : Type 0} (refused : ℕ → A) (b : List ℕ) {test : Bool} (is : test ≡ isShort b) where
+  pub when-short : (answer : A) → test ≡ true → refused shortBuffer ≡ unlessShort refused b answer
+  when-short answer short = rw (← is, short) refl
+
+  pub when-long : {given answer : A} → test ≡ false → given ≡ answer → given ≡ unlessShort refused b answer
+  when-long long same = rw (← is, long) same
 
 -- ---- what reading a buffer tells
 
@@ -42,7 +52,7 @@ module _ (x : Reading) where
 
 module _ (f : Machine → Bank → model.Answer) (b : List ℕ) (m : Bank) (x : Reading) where
   -- A buffer that holds no record.
-  pub not-called : (h : Holding) → readOf x ≡ given h → x .found ≡ found.Nothing → untouched 7 b m ≡ called f h b m
+  pub not-called : (h : Holding) → readOf x ≡ given h → x .found ≡ found.Nothing → untouched b m noRecord ≡ called f h b m
   not-called (holds r) e n = no-record x e n
   not-called nothing e n = refl
 
@@ -81,7 +91,7 @@ small-length r m before a after e = rw (ap (λ (z : listing.Printing). z .bytes)
 
 module _ (m : Bank) (before : List ℕ) (x : Reading) where
   -- A buffer that holds no record.
-  pub not-printed : (h : Holding) → readOf x ≡ given h → x .found ≡ found.Nothing → shown 7 before ≡ printed h m before
+  pub not-printed : (h : Holding) → readOf x ≡ given h → x .found ≡ found.Nothing → unwritten before noRecord ≡ printed h m before
   not-printed (holds r) e n = no-record x e n
   not-printed nothing e n = refl
 

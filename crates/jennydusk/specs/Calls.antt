@@ -1,11 +1,11 @@
--- What each call answers and leaves, for every buffer and every length. A record stands in a buffer as the crates encoder
--- and decoder have it. The numbers are those of document 01's table, 0 where nothing was refused; a buffer that holds no
--- record is 7 too, and is left with all else.
+-- What each call over a record answers and leaves, for every buffer and every length. A record stands in a buffer as the
+-- crates encoder and decoder have it. The numbers are those of document 01's table, and two more: 0 where nothing was
+-- refused, 255 for a record's buffer that is too short.
 -- Assumes nothing.
 use Prim.Native.Nat.{ℕ, _+_, _*_}
 use mathlib.Core.Bool.{Bool, true, false, cond}
 use mathlib.Core.List.{List}
-use lib.Dec.{leb, eqb}
+use lib.Dec.{ltb, eqb}
 use lib.ListN.{length}
 use Rattle.model.specs.Record.{Bank, Machine}
 use Rattle.model.specs.Answer.{Answer, stepAnswer, runAnswer}
@@ -14,6 +14,38 @@ use Rattle.model.specs.Listing.{Printing, print}
 use Rattle.encoder.specs.Layout.{span}
 use Rattle.encoder.specs.Writing.{write}
 use Rattle.decoder.specs.Held.{Holding, holds, nothing, machineIn}
+
+-- ---- numbers
+
+-- Nothing was refused.
+abbrev pub done : ℕ
+done = 0
+
+-- A buffer that is long enough holds no record. It is refused as a record that is not well-formed.
+abbrev pub noRecord : ℕ
+noRecord = 7
+
+-- A record's buffer is shorter than a record. The table has no such number.
+abbrev pub shortBuffer : ℕ
+shortBuffer = 255
+
+-- An answer's number is below this one; a line or a length stands above it, as so many times this one.
+abbrev pub numbers : ℕ
+numbers = 256
+
+-- A number and a count in one answer.
+abbrev pub counted : ℕ → ℕ → ℕ
+counted number count = number + numbers * count
+
+-- ---- what all four calls try before everything else
+
+-- A buffer is shorter than a record.
+unfoldable pub isShort : List ℕ → Bool
+isShort b = ltb (length b) span
+
+-- Where the record's buffer is too short the call is refused, whatever else it was given.
+abbrev pub unlessShort : {A : Type 0} → (ℕ → A) → List ℕ → A → A
+unlessShort refused b answer = cond (isShort b) (refused shortBuffer) answer
 
 -- ---- calls that may change a record: load, step, run
 
@@ -29,12 +61,12 @@ left answer buffer words labels =
     record { answer = answer; buffer = buffer; memory = record { values = words; labels = labels } }
 
 -- All is left.
-abbrev pub untouched : ℕ → List ℕ → Bank → Left
-untouched answer b m = record { answer = answer; buffer = b; memory = m }
+abbrev pub untouched : List ℕ → Bank → ℕ → Left
+untouched b m answer = record { answer = answer; buffer = b; memory = m }
 
 -- The buffer after a call with this number: the record is written, unless the call was refused.
 unfoldable pub kept : ℕ → Machine → List ℕ → List ℕ
-kept number r b = cond (eqb number 0) (write r b .buffer) b
+kept number r b = cond (eqb number done) (write r b .buffer) b
 
 -- After the answer of step or run.
 abbrev pub afterAnswer : Answer → List ℕ → Left
@@ -42,29 +74,29 @@ afterAnswer a b = record { answer = a .number; buffer = kept (a .number) (a .mac
 
 -- Step or run of what a buffer holds.
 abbrev pub called : (Machine → Bank → Answer) → Holding → List ℕ → Bank → Left
-called f nothing b m = untouched 7 b m
+called f nothing b m = untouched b m noRecord
 called f (holds r) b m = afterAnswer (f r m) b
+
+-- Step or run of a buffer.
+unfoldable pub recordCall : (Machine → Bank → Answer) → List ℕ → Bank → Left
+recordCall f b m = unlessShort (untouched b m) b (called f (machineIn b) b m)
 
 -- jennydusk_step.
 unfoldable pub stepCall : List ℕ → Bank → Left
-stepCall b m = called stepAnswer (machineIn b) b m
+stepCall b m = recordCall stepAnswer b m
 
 -- jennydusk_run.
 unfoldable pub runCall : List ℕ → Bank → Left
-runCall b m = called runAnswer (machineIn b) b m
-
--- A number and a count in one answer.
-abbrev pub counted : ℕ → ℕ → ℕ
-counted number count = number + 256 * count
+runCall b m = recordCall runAnswer b m
 
 -- After the answer of load: its number and line.
 abbrev pub afterLoading : Loading → List ℕ → Left
 afterLoading a b =
     record { answer = counted (a .number) (a .line); buffer = kept (a .number) (a .machine) b; memory = a .memory }
 
--- jennydusk_load. A buffer that is too short for a record is 7, before the text is read.
+-- jennydusk_load.
 unfoldable pub loadCall : List ℕ → Bank → List ℕ → Left
-loadCall text m b = cond (leb span (length b)) (afterLoading (load text m) b) (untouched 7 b m)
+loadCall text m b = unlessShort (untouched b m) b (afterLoading (load text m) b)
 
 -- ---- print, which changes the output alone
 
@@ -81,14 +113,18 @@ shown answer output = record { answer = answer; output = output }
 abbrev pub afterPrinting : Printing → Shown
 afterPrinting a = shown (counted (a .number) (a .bytes)) (a .output)
 
+-- The output is left.
+abbrev pub unwritten : List ℕ → ℕ → Shown
+unwritten out answer = shown answer out
+
 -- Print of what a buffer holds.
 abbrev pub printed : Holding → Bank → List ℕ → Shown
-printed nothing m out = shown 7 out
+printed nothing m out = unwritten out noRecord
 printed (holds r) m out = afterPrinting (print r m out)
 
 -- jennydusk_print.
 unfoldable pub printCall : List ℕ → Bank → List ℕ → Shown
-printCall b m out = printed (machineIn b) m out
+printCall b m out = unlessShort (unwritten out) b (printed (machineIn b) m out)
 
 -- ======== Here ends what the public promises cite.
 

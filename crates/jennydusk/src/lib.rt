@@ -1,5 +1,6 @@
 // The machine for programs in other languages: load, step, run and print over buffers that the caller lends. A record
-// stands in a buffer of 64-bit words, as the crates encoder and decoder have it. Nothing is kept between calls.
+// stands in a buffer of 64-bit words, as the crates encoder and decoder have it. Nothing is kept between calls. The
+// module label_calls has the label rules for them.
 use decoder::Found;
 use loader::load;
 use machine::Answer;
@@ -9,20 +10,39 @@ use printer::print;
 ghost use Prim.Native.Nat.{_≤_, _^_};
 ghost use mathlib.Core.Path.{_≡_};
 ghost use Rattle.machine.specs.Answered.{recordOf, numberOf, answered, lent};
-ghost use Rattle.decoder.specs.Held.{machineIn};
-ghost use Rattle.jennydusk.specs.Calls.{left, kept, called, counted, shown, loadCall, stepCall, runCall, printCall, stepOrRun};
+ghost use Rattle.jennydusk.specs.Calls.{isShort, left, kept, counted, recordCall, shown, loadCall, stepCall, runCall, printCall, stepOrRun};
 
-// The answer for a buffer that holds no record.
-const NO_RECORD: u64 = 7;
+mod label_calls;
 
-// The number of an outcome: 0 for a call that was carried out, 7 and 6 for the refusals.
+// The numbers of answers that are given here. A call was carried out.
+const DONE: u64 = 0;
+// Lent words or labels are shorter than the size.
+const SHORT_MEMORY: u64 = 6;
+// The record is not well-formed.
+const ILL_FORMED: u64 = 7;
+// The buffer holds no record.
+const NO_RECORD: u64 = ILL_FORMED;
+// The buffer is shorter than a record.
+const SHORT_BUFFER: u64 = 255;
+
+// A number is below this one; a line or a length stands above it.
+const NUMBERS: u64 = 256;
+
+// Whether a buffer is shorter than a record. Each call tries this before everything else.
+fn is_short(record: &[u64]) -> bool
+    ensures { λ r. ⌜ r ≡ isShort (now («record» .entry)) ⌝ }
+{
+    record.len() < encoder::SPAN
+}
+
+// The number of an outcome.
 fn number_of(outcome: Outcome) -> u64
     ensures { λ r. ⌜ r ≡ numberOf outcome ⌝ }
 {
     match outcome {
-        Outcome::Done => 0,
-        Outcome::IllFormed => 7,
-        Outcome::ShortMemory => 6,
+        Outcome::Done => DONE,
+        Outcome::IllFormed => ILL_FORMED,
+        Outcome::ShortMemory => SHORT_MEMORY,
     }
 }
 
@@ -30,7 +50,7 @@ fn number_of(outcome: Outcome) -> u64
 fn keep(number: u64, machine: Machine, record: &mut [u64])
     ensures { λ r. ⌜ now («record» .exit) ≡ kept number (recordOf machine) (now («record» .entry)) ⌝ }
 {
-    if number == 0 {
+    if number == DONE {
         encoder::write(machine, record);
     }
 }
@@ -40,7 +60,7 @@ fn counted(number: u64, count: u64) -> u64
     requires { ⌜ (number ≤ 255) × (count ≤ 2 ^ 32) ⌝ }
     ensures { λ r. ⌜ r ≡ counted number count ⌝ }
 {
-    number + 256 * count
+    number + NUMBERS * count
 }
 
 // Loads a text: the record goes to its buffer, and the memory to words and labels.
@@ -53,8 +73,8 @@ pub extern "C" fn jennydusk_load(
 ) -> u64
     ensures { λ r. ⌜ left r (now («record» .exit)) (now (words .exit)) (now (labels .exit)) ≡ loadCall (now (text .entry)) (lent (now (words .entry)) (now (labels .entry))) (now («record» .entry)) ⌝ }
 {
-    if record.len() < encoder::SPAN {
-        return NO_RECORD;
+    if is_short(record) {
+        return SHORT_BUFFER;
     }
     let loaded = load(text, words, labels);
     let verdict = loaded.verdict;
@@ -77,8 +97,11 @@ fn step_or_run(once: bool, machine: Machine, words: &mut [u32], labels: &mut [u8
 
 // One step of the record in the buffer, or its run: what the two calls below share.
 fn advanced(once: bool, record: &mut [u64], words: &mut [u32], labels: &mut [u8]) -> u64
-    ensures { λ r. ⌜ left r (now («record» .exit)) (now (words .exit)) (now (labels .exit)) ≡ called (stepOrRun once) (machineIn (now («record» .entry))) (now («record» .entry)) (lent (now (words .entry)) (now (labels .entry))) ⌝ }
+    ensures { λ r. ⌜ left r (now («record» .exit)) (now (words .exit)) (now (labels .exit)) ≡ recordCall (stepOrRun once) (now («record» .entry)) (lent (now (words .entry)) (now (labels .entry))) ⌝ }
 {
+    if is_short(record) {
+        return SHORT_BUFFER;
+    }
     let reading = decoder::read(record);
     let found = reading.found;
     if let Found::Nothing = found {
@@ -119,6 +142,9 @@ pub extern "C" fn jennydusk_print(
 ) -> u64
     ensures { λ r. ⌜ shown r (now (out .exit)) ≡ printCall (now («record» .entry)) (lent (now (words .entry)) (now (labels .entry))) (now (out .entry)) ⌝ }
 {
+    if is_short(record) {
+        return SHORT_BUFFER;
+    }
     let reading = decoder::read(record);
     let found = reading.found;
     if let Found::Nothing = found {

@@ -1,4 +1,7 @@
-//! The four calls over plain buffers, for the library and the interpreter alike.
+//! The four calls over plain buffers, for the library and the interpreter alike,
+//! and their answers.
+
+use interpreter::NOT_FIT;
 
 /// The calls of `include/jennydusk.h`. A slice is a pointer and a length there.
 pub trait Calls {
@@ -7,6 +10,12 @@ pub trait Calls {
     fn run(&self, record: &mut [u64], words: &mut [u32], labels: &mut [u8]) -> u64;
     fn print(&self, record: &[u64], words: &[u32], labels: &[u8], output: &mut [u8]) -> u64;
 }
+
+/// "the record is not well-formed, or the buffer holds none"
+pub const NO_RECORD: u64 = NOT_FIT as u64;
+
+/// "the record's buffer is shorter than JENNYDUSK_SPAN"
+pub const SHORT_BUFFER: u64 = 255;
 
 /// "answers: a number, with a line or a length above it"
 pub fn number(answer: u64) -> u64 {

@@ -72,9 +72,8 @@ fn call(words: &[u64]) -> Option<Call> {
     }
 }
 
-/// The record that a buffer holds. It holds none when "it is shorter than
-/// JENNYDUSK_SPAN, or a word is outside its field's range, or a call's words are
-/// none".
+/// The record that a buffer holds. It holds none when it is too short, or "a word
+/// is outside its field's range, or a call's words are none".
 pub fn read(buffer: &[u64]) -> Option<Machine> {
     let words = buffer.get(..SPAN)?;
     let pair = pair(&words[at::PC_LABEL..])?;

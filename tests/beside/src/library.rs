@@ -1,5 +1,5 @@
-//! The library's four C functions, as `include/jennydusk.h` declares them. This
-//! is the only module with unsafe code, and the calls are all of it.
+//! The library's C functions over a record, as `include/jennydusk.h` declares
+//! them. This is the only module with unsafe code, and the calls are all of it.
 
 #![allow(unsafe_code)]
 

@@ -3,7 +3,7 @@
 
 use crate::bases::LONGEST;
 use crate::buffers::Lent;
-use crate::calls::{answer, Calls};
+use crate::calls::{answer, Calls, SHORT_BUFFER};
 use crate::layout::{at, SPAN};
 use crate::trials::{Call, Due, Trials, LENDINGS};
 use interpreter::generator::census::Census;
@@ -29,8 +29,8 @@ const ORDERS: [&str; 9] = [
     "load, 6 before 2",
     "load, 6 before 3",
     "load, 6 before 4",
-    "load, 7 before 6",
-    "load, 7 before the text",
+    "load, 255 before 6",
+    "load, 255 before the text",
 ];
 
 /// All that must come up.
@@ -38,7 +38,7 @@ pub fn expected() -> Vec<String> {
     let mut names: Vec<String> = ORDERS.map(str::to_string).to_vec();
     names.extend(LENDINGS.iter().map(|lending| format!("load, {}", lending.name)));
     names.extend(RECORDS.iter().map(|(name, _)| format!("load, {name}")));
-    names.extend((0..8).map(|number| format!("load, answer {number}")));
+    names.extend((0..7).chain([SHORT_BUFFER]).map(|number| format!("load, answer {number}")));
     names
 }
 
@@ -80,7 +80,7 @@ fn dirty(random: &mut Random, record: usize, size: usize) -> Lent {
 }
 
 /// One load. Refusals 1, and 2, 3 and 5 of the first line come before 6, which
-/// comes before those of later lines; a short record before them all.
+/// comes before those of later lines; a short buffer before them all.
 pub fn try_load(trials: &mut Trials, random: &mut Random, turn: usize) {
     let text = text(random, turn);
     let size = size_of(&text.bytes);
@@ -90,7 +90,7 @@ pub fn try_load(trials: &mut Trials, random: &mut Random, turn: usize) {
     lending.apply(random, &mut lent, size);
     let is_early = text.number > 0 && text.line <= 1;
     let (due, line) = match (record < SPAN, lending.is_short()) {
-        (true, _) => (7, 0),
+        (true, _) => (SHORT_BUFFER, 0),
         (false, true) if !is_early => (6, 1),
         _ => (text.number, text.line),
     };
@@ -98,8 +98,8 @@ pub fn try_load(trials: &mut Trials, random: &mut Random, turn: usize) {
     tally.count(&format!("load, {record_name}"));
     tally.count(&format!("load, {}", lending.name));
     tally.count(&format!("load, answer {due}"));
-    tally.count_if(due == 7 && lending.is_short(), "load, 7 before 6");
-    tally.count_if(due == 7 && text.number > 0, "load, 7 before the text");
+    tally.count_if(due == SHORT_BUFFER && lending.is_short(), "load, 255 before 6");
+    tally.count_if(due == SHORT_BUFFER && text.number > 0, "load, 255 before the text");
     if due != text.number && due == 6 && text.number > 0 {
         tally.count(&format!("load, 6 before {}", text.number));
     }

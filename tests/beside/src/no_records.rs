@@ -1,5 +1,5 @@
-//! Buffers that hold no record: a word outside its field's range, a call's
-//! words that are none, or too few words.
+//! Buffers that hold no record: a word outside its field's range, or a call's
+//! words that are none. And buffers that are too short for one.
 
 use crate::layout::{at, SPAN};
 use interpreter::generator::random::Random;
@@ -39,8 +39,8 @@ pub const WIDE_NUMBERS: [NoRecord; 17] = [
     way("label of a register 2^64 - 1", |w, r| w[at::label(r.index(16))] = u64::MAX),
 ];
 
-/// Five words that are no call, and too few words.
-pub const NO_CALLS: [NoRecord; 14] = [
+/// Five words that are no call.
+pub const NO_CALLS: [NoRecord; 11] = [
     way("unknown kind of the first call", |w, _| w[at::call(0)] = 3),
     way("unknown kind of the second call", |w, _| w[at::call(1)] = 3),
     way("wide kind of a call", |w, r| w[at::call(r.index(2))] += WIDE_LABEL),
@@ -52,8 +52,16 @@ pub const NO_CALLS: [NoRecord; 14] = [
     way("wide return pc", |w, _| put_call(w, 0, [1, WIDE, 240, 240, 0])),
     way("wide pc label of a call", |w, _| put_call(w, 0, [1, 0, 240 + 256, 240, 0])),
     way("wide timing label of a call", |w, _| put_call(w, 0, [1, 0, 240, 240 + 256, 0])),
+];
+
+/// Too few words.
+pub const SHORT_BUFFERS: [NoRecord; 4] = [
     way("one word too few", |w, _| w.truncate(SPAN - 1)),
     way("half the words", |w, _| w.truncate(SPAN / 2)),
+    way("half the words, the first one wide", |w, _| {
+        w.truncate(SPAN / 2);
+        w[at::SIZE] += WIDE;
+    }),
     way("no word", |w, _| w.clear()),
 ];
 
@@ -61,7 +69,7 @@ fn put_call(words: &mut [u64], k: usize, call: [u64; 5]) {
     words[at::call(k)..at::call(k) + 5].copy_from_slice(&call);
 }
 
-/// All the ways.
+/// All the ways of a buffer that is long enough.
 pub fn no_records() -> impl Iterator<Item = &'static NoRecord> {
     WIDE_NUMBERS.iter().chain(&NO_CALLS)
 }

@@ -1,22 +1,30 @@
 //! The interpreter behind the library's calls: a record is read from its
 //! buffer, and written back where the call is carried out.
 
-use crate::calls::{answer, Calls};
+use crate::calls::{answer, Calls, NO_RECORD, SHORT_BUFFER};
 use crate::layout::{at, read, words_of, SPAN};
 use interpreter::machine::MAX_GATES;
-use interpreter::{load, print, Machine, NOT_FIT};
+use interpreter::{load, print, Machine};
 
 /// The interpreter in Rust.
 pub struct Other;
 
-/// A buffer that holds no record is refused as one that is not fit.
-const NO_RECORD: u64 = NOT_FIT as u64;
+/// The record of a buffer, or the refusal. "Each of the four answers
+/// JENNYDUSK_SHORT_BUFFER where the record's buffer is too short, before it
+/// reads anything."
+fn record_in(buffer: &[u64]) -> Result<Machine, u64> {
+    if buffer.len() < SPAN {
+        return Err(SHORT_BUFFER);
+    }
+    read(buffer).ok_or(NO_RECORD)
+}
 
 /// Carries a call out on the record of a buffer. "A refused call leaves the
 /// record, words, labels and output as they were."
 fn change(record: &mut [u64], call: impl FnOnce(&mut Machine) -> Result<(), u8>) -> u64 {
-    let Some(mut machine) = read(record) else {
-        return NO_RECORD;
+    let mut machine = match record_in(record) {
+        Ok(machine) => machine,
+        Err(number) => return number,
     };
     match call(&mut machine) {
         Ok(()) => {
@@ -28,12 +36,11 @@ fn change(record: &mut [u64], call: impl FnOnce(&mut Machine) -> Result<(), u8>)
 }
 
 impl Calls for Other {
-    /// "Answers a number, 0 to 7, and 256 times the line that was refused. A
-    /// record buffer shorter than JENNYDUSK_SPAN is 7, before the text is read."
-    /// "A load sets the words of the gates that no line names to 0."
+    /// "Answers a number, 0 to 6 or 255, and 256 times the line that was
+    /// refused. A load sets the words of the gates that no line names to 0."
     fn load(&self, text: &[u8], words: &mut [u32], labels: &mut [u8], record: &mut [u64]) -> u64 {
         if record.len() < SPAN {
-            return NO_RECORD;
+            return SHORT_BUFFER;
         }
         match load(text, words, labels) {
             Ok(machine) => {
@@ -45,20 +52,21 @@ impl Calls for Other {
         }
     }
 
-    /// "Does one step. Answers 0, 6 or 7. An ended record steps to itself."
+    /// "Does one step. Answers 0, 6, 7 or 255. An ended record steps to itself."
     fn step(&self, record: &mut [u64], words: &mut [u32], labels: &mut [u8]) -> u64 {
         change(record, |machine| machine.step(words, labels))
     }
 
-    /// "Steps until the end isn't 0. Answers 0, 6 or 7."
+    /// "Steps until the end isn't 0. Answers 0, 6, 7 or 255."
     fn run(&self, record: &mut [u64], words: &mut [u32], labels: &mut [u8]) -> u64 {
         change(record, |machine| machine.run(words, labels))
     }
 
-    /// "Answers 0 and 256 times the listing's length, or 6, 7 or 8."
+    /// "Answers 0 and 256 times the listing's length, or 6, 7, 8 or 255."
     fn print(&self, record: &[u64], words: &[u32], labels: &[u8], output: &mut [u8]) -> u64 {
-        let Some(machine) = read(record) else {
-            return NO_RECORD;
+        let machine = match record_in(record) {
+            Ok(machine) => machine,
+            Err(number) => return number,
         };
         match print(&machine, words, labels, output) {
             Ok(length) => answer(0, length as u64),

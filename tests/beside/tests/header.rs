@@ -1,6 +1,7 @@
 //! The layout that the comparisons read and write is the one that
 //! `include/jennydusk.h` tells its users.
 
+use beside::calls::{NO_RECORD, SHORT_BUFFER};
 use beside::layout::{at, SPAN};
 
 const HEADER: &str = include_str!("../../../include/jennydusk.h");
@@ -65,4 +66,11 @@ fn the_papers_numbers() {
     let refusals = ["TEXT_LENGTH", "MALFORMED", "RANGE", "ORDER", "PAIR"].map(number);
     assert_eq!(refusals, [1, 2, 3, 4, 5]);
     assert_eq!(["DONE", "SHORT_MEMORY", "NO_RECORD", "SHORT_OUTPUT"].map(number), [0, 6, 7, 8]);
+    assert_eq!(number("NO_RECORD") as u64, NO_RECORD);
+}
+
+/// The paper's table has no such refusal, and so no such number.
+#[test]
+fn the_number_of_a_short_buffer() {
+    assert_eq!(number("SHORT_BUFFER") as u64, SHORT_BUFFER);
 }

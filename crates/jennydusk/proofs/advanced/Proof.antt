@@ -1,13 +1,26 @@
--- `jennydusk::advanced` meets its contract. The answer of step or run is handed on.
+-- `jennydusk::advanced` meets its contract. The first test is the definition's; then the answer of step or run is handed on.
 -- Assumes nothing.
 use borrow.Author.Needs.{needs}
 use Rattle.machine.specs.Answered.{lent}
 use Rattle.decoder.specs.Held.{machineIn}
 use Rattle.decoder.specs.Reading as reading
-use Rattle.jennydusk.specs.Calls.{stepOrRun}
-use Rattle.jennydusk.proofs.Laws.{not-called, was-called}
+use Rattle.jennydusk.specs.Calls.{untouched, recordCall, stepOrRun}
+use Rattle.jennydusk.proofs.Laws.{when-short, when-long, not-called, was-called}
 use Rattle.jennydusk.proofs.advanced.Statement.{statement}
 use Rattle.jennydusk.proofs.advanced.Tie as tie
+
+is-short-requires : tie.Need-is-short-requires
+is-short-requires c κs = search needs
+
+same-length : tie.Need-same-length
+same-length c = search needs
+
+returns : tie.Need-returns
+unfolding recordCall
+returns c =
+    let start = c .before .before .before .before .before .before in
+    when-short (untouched (start .args .«record» .now) (lent (start .args .words .now) (start .args .labels .now)))
+    (start .args .«record» .now) (c .before .is-short .ensures) _ (c .if1 .taken)
 
 read-requires : tie.Need-read-requires
 read-requires c κs = search needs
@@ -15,16 +28,20 @@ read-requires c κs = search needs
 enum-told : tie.Need-enum-told
 enum-told c = search needs
 
-same-length : tie.Need-same-length
-same-length c = search needs
+same-length-2 : tie.Need-same-length-2
+same-length-2 c = search needs
 
-returns : tie.Need-returns
-unfolding reading.read
-returns c =
+returns-2 : tie.Need-returns-2
+unfolding recordCall reading.read
+returns-2 c =
     let reading = c .before .before in
-    let start = reading .before .before .before .before .before in
-    not-called (stepOrRun (start .args .once)) (start .args .«record» .now) (lent (start .args .words .now) (start .args .labels .now))
-    (reading .read .result) (machineIn (start .args .«record» .now)) (reading .read .ensures) (c .enum-told .given .1)
+    let long = reading .before .before in
+    let start = long .before .before .before .before .before .before in
+    let buffer = start .args .«record» .now in
+    let memory = lent (start .args .words .now) (start .args .labels .now) in
+    when-long (untouched buffer memory) buffer (long .before .is-short .ensures) (long .if1 .left)
+    (not-called (stepOrRun (start .args .once)) buffer memory (reading .read .result) (machineIn buffer) (reading .read .ensures)
+    (c .enum-told .given .1))
 
 enum-told-2 : tie.Need-enum-told-2
 enum-told-2 c = search needs
@@ -38,40 +55,47 @@ number-of-requires c κs = search needs
 keep-requires : tie.Need-keep-requires
 keep-requires c κs = search needs
 
-same-length-2 : tie.Need-same-length-2
-same-length-2 c = search needs
-
 same-length-3 : tie.Need-same-length-3
 same-length-3 c = search needs
 
 same-length-4 : tie.Need-same-length-4
 same-length-4 c = search needs
 
-returns-2 : tie.Need-returns-2
-unfolding reading.read
-returns-2 c =
+same-length-5 : tie.Need-same-length-5
+same-length-5 c = search needs
+
+returns-3 : tie.Need-returns-3
+unfolding recordCall reading.read
+returns-3 c =
     let counted = c .before .before .before .before in
     let called = counted .before .before .before .before .before .before in
     let found = called .before .before .before .before in
     let reading = found .before .before in
-    let start = reading .before .before .before .before .before in
-    was-called (stepOrRun (start .args .once)) (start .args .«record» .now) (lent (start .args .words .now) (start .args .labels .now))
-    (reading .read .result) (machineIn (start .args .«record» .now)) (called .step-or-run .result) (reading .read .ensures)
-    (found .enum-told2 .given .1) (called .step-or-run .ensures) (counted .number-of .ensures) (c .before .before .keep .ensures)
+    let long = reading .before .before in
+    let start = long .before .before .before .before .before .before in
+    let buffer = start .args .«record» .now in
+    let memory = lent (start .args .words .now) (start .args .labels .now) in
+    when-long (untouched buffer memory) buffer (long .before .is-short .ensures) (long .if1 .left)
+    (was-called (stepOrRun (start .args .once)) buffer memory (reading .read .result) (machineIn buffer)
+    (called .step-or-run .result) (reading .read .ensures) (found .enum-told2 .given .1) (called .step-or-run .ensures)
+    (counted .number-of .ensures) (c .before .before .keep .ensures))
 
 pub advanced-spec : {M : Type 1} → statement M
 advanced-spec =
     tie.close
     (tie.spec
-    read-requires
-    enum-told
+    is-short-requires
     same-length
     returns
+    read-requires
+    enum-told
+    same-length-2
+    returns-2
     enum-told-2
     step-or-run-requires
     number-of-requires
     keep-requires
-    same-length-2
     same-length-3
     same-length-4
-    returns-2)
+    same-length-5
+    returns-3)

@@ -2,16 +2,24 @@
 -- Assumes nothing.
 use mathlib.Core.Path.{refl}
 use borrow.Author.Needs.{needs}
-use borrow.Author.Tests.{lt-leb, le-leb}
 use Rattle.machine.specs.Answered.{lent}
-use Rattle.jennydusk.specs.Calls.{loadCall}
-use Rattle.jennydusk.proofs.Laws.{was-loaded}
+use Rattle.jennydusk.specs.Calls.{untouched, loadCall}
+use Rattle.jennydusk.proofs.Laws.{when-short, when-long, was-loaded}
 use Rattle.jennydusk.proofs.jennydusk_load.Statement.{statement}
 use Rattle.jennydusk.proofs.jennydusk_load.Tie as tie
 
+is-short-requires : tie.Need-is-short-requires
+is-short-requires c κs = search needs
+
+same-length : tie.Need-same-length
+same-length c = search needs
+
 returns : tie.Need-returns
 unfolding loadCall
-returns c = rw (lt-leb 76 _ (c .if1 .taken)) refl
+returns c =
+    let start = c .before .before .before .before .before .before .before in
+    when-short (untouched (start .args .«record» .now) (lent (start .args .words .now) (start .args .labels .now)))
+    (start .args .«record» .now) (c .before .is-short .ensures) _ (c .if1 .taken)
 
 load-requires : tie.Need-load-requires
 load-requires c κs = search needs
@@ -31,14 +39,14 @@ keep-requires c κs = search needs
 counted-requires : tie.Need-counted-requires
 counted-requires c κs = search needs
 
-same-length : tie.Need-same-length
-same-length c = search needs
-
 same-length-2 : tie.Need-same-length-2
 same-length-2 c = search needs
 
 same-length-3 : tie.Need-same-length-3
 same-length-3 c = search needs
+
+same-length-4 : tie.Need-same-length-4
+same-length-4 c = search needs
 
 returns-2 : tie.Need-returns-2
 unfolding loadCall
@@ -47,16 +55,19 @@ returns-2 c =
     let judged = kept .before .before .before in
     let loading = judged .before .before .before .before .before .before in
     let long = loading .before .before .before in
-    let start = long .before .before .before .before .before in
-    rw (le-leb 76 _ (long .if1 .left))
-    (was-loaded (start .args .text .now) (lent (start .args .words .now) (start .args .labels .now))
-    (start .args .«record» .now) (loading .load .result) (loading .load .ensures) (judged .number .ensures)
+    let start = long .before .before .before .before .before .before .before in
+    let buffer = start .args .«record» .now in
+    let memory = lent (start .args .words .now) (start .args .labels .now) in
+    when-long (untouched buffer memory) buffer (long .before .is-short .ensures) (long .if1 .left)
+    (was-loaded (start .args .text .now) memory buffer (loading .load .result) (loading .load .ensures) (judged .number .ensures)
     refl (kept .keep .ensures) (c .counted .ensures))
 
 pub jennydusk-load-spec : {M : Type 1} → statement M
 jennydusk-load-spec =
     tie.close
     (tie.spec
+    is-short-requires
+    same-length
     returns
     load-requires
     number-requires
@@ -64,7 +75,7 @@ jennydusk-load-spec =
     cast-line
     keep-requires
     counted-requires
-    same-length
     same-length-2
     same-length-3
+    same-length-4
     returns-2)

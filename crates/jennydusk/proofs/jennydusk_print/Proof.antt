@@ -1,13 +1,23 @@
--- `jennydusk::jennydusk_print` meets its contract. The answer of print is handed on; a listing is short enough for its length to fit the answer.
+-- `jennydusk::jennydusk_print` meets its contract. The first test is the definition's; then the answer of print is handed on,
+-- and a listing is short enough for its length to fit the answer.
 -- Assumes nothing.
 use borrow.Author.Needs.{needs}
 use Rattle.machine.specs.Answered.{recordOf, lent}
 use Rattle.decoder.specs.Held.{machineIn}
 use Rattle.decoder.specs.Reading as reading
-use Rattle.jennydusk.specs.Calls.{printCall}
-use Rattle.jennydusk.proofs.Laws.{small-number, small-length, not-printed, was-printed}
+use Rattle.jennydusk.specs.Calls.{unwritten, printCall}
+use Rattle.jennydusk.proofs.Laws.{when-short, when-long, small-number, small-length, not-printed, was-printed}
 use Rattle.jennydusk.proofs.jennydusk_print.Statement.{statement}
 use Rattle.jennydusk.proofs.jennydusk_print.Tie as tie
+
+is-short-requires : tie.Need-is-short-requires
+is-short-requires c κs = search needs
+
+returns : tie.Need-returns
+unfolding printCall
+returns c =
+    let start = c .before .before .before .before .before .before in
+    when-short (unwritten (start .args .out .now)) (start .args .«record» .now) (c .before .is-short .ensures) _ (c .if1 .taken)
 
 read-requires : tie.Need-read-requires
 read-requires c κs = search needs
@@ -15,13 +25,17 @@ read-requires c κs = search needs
 enum-told : tie.Need-enum-told
 enum-told c = search needs
 
-returns : tie.Need-returns
+returns-2 : tie.Need-returns-2
 unfolding printCall reading.read
-returns c =
+returns-2 c =
     let reading = c .before .before in
-    let start = reading .before .before .before .before .before in
-    not-printed (lent (start .args .words .now) (start .args .labels .now)) (start .args .out .now) (reading .read .result)
-    (machineIn (start .args .«record» .now)) (reading .read .ensures) (c .enum-told .given .1)
+    let long = reading .before in
+    let start = long .before .before .before .before .before .before in
+    let buffer = start .args .«record» .now in
+    let output = start .args .out .now in
+    when-long (unwritten output) buffer (long .before .is-short .ensures) (long .if1 .left)
+    (not-printed (lent (start .args .words .now) (start .args .labels .now)) output (reading .read .result) (machineIn buffer)
+    (reading .read .ensures) (c .enum-told .given .1))
 
 enum-told-2 : tie.Need-enum-told-2
 enum-told-2 c = search needs
@@ -42,7 +56,7 @@ counted-requires : tie.Need-counted-requires
 counted-requires c κs =
     let written = c .before .before .before .before in
     let reading = written .before .before .before .before .before in
-    let start = reading .before .before .before .before .before in (
+    let start = reading .before .before .before .before .before .before .before in (
       rw (c .before .number .ensures) (small-number (written .print .result .outcome)),
       rw (c .bytes .ensures)
           (small-length (recordOf (reading .read .result .machine)) (lent (start .args .words .now) (start .args .labels .now))
@@ -52,24 +66,30 @@ counted-requires c κs =
 same-length : tie.Need-same-length
 same-length c = search needs
 
-returns-2 : tie.Need-returns-2
+returns-3 : tie.Need-returns-3
 unfolding printCall reading.read
-returns-2 c =
+returns-3 c =
     let written = c .before .before .before .before .before in
     let found = written .before .before .before in
     let reading = found .before .before in
-    let start = reading .before .before .before .before .before in
-    was-printed (lent (start .args .words .now) (start .args .labels .now)) (start .args .out .now) (reading .read .result)
-    (machineIn (start .args .«record» .now)) (written .print .result) (reading .read .ensures) (found .enum-told2 .given .1)
-    (written .print .ensures) (c .before .before .number .ensures) (c .before .bytes .ensures) (c .counted .ensures)
+    let long = reading .before in
+    let start = long .before .before .before .before .before .before in
+    let buffer = start .args .«record» .now in
+    let output = start .args .out .now in
+    when-long (unwritten output) buffer (long .before .is-short .ensures) (long .if1 .left)
+    (was-printed (lent (start .args .words .now) (start .args .labels .now)) output (reading .read .result) (machineIn buffer)
+    (written .print .result) (reading .read .ensures) (found .enum-told2 .given .1) (written .print .ensures)
+    (c .before .before .number .ensures) (c .before .bytes .ensures) (c .counted .ensures))
 
 pub jennydusk-print-spec : {M : Type 1} → statement M
 jennydusk-print-spec =
     tie.close
     (tie.spec
+    is-short-requires
+    returns
     read-requires
     enum-told
-    returns
+    returns-2
     enum-told-2
     print-requires
     number-requires
@@ -77,4 +97,4 @@ jennydusk-print-spec =
     bytes-requires
     counted-requires
     same-length
-    returns-2)
+    returns-3)

@@ -8,18 +8,19 @@
 use beside::bases::Base;
 use beside::breaks::breaks;
 use beside::buffers::Lent;
-use beside::calls::{count, number, Calls};
+use beside::calls::{count, number, Calls, NO_RECORD, SHORT_BUFFER};
 use beside::edges::edges;
 use beside::layout::words_of;
 use beside::library::Library;
 use beside::loads::{self, try_cabinet, try_load};
-use beside::no_records::no_records;
+use beside::no_records::{no_records, SHORT_BUFFERS};
 use beside::other::Other;
 use beside::random_records::change;
 use beside::tally::Tally;
 use beside::trials::{Call, Due, Trials, CALLS, LENDINGS};
 use beside::verdict::close;
 use interpreter::generator::random::Random;
+use interpreter::{SHORT_MEMORY, SHORT_OUTPUT};
 use std::env;
 use std::process::ExitCode;
 
@@ -28,6 +29,9 @@ const OUTPUTS: [&str; 4] = ["just the listing", "short by one", "none", "longer"
 
 /// So many times each record has words changed at random.
 const RANDOM: u32 = 40;
+
+/// No refusal is due for the record itself.
+const FIT: u64 = 0;
 
 /// After a call that was carried out, so many more are made.
 const FURTHER: u32 = 4;
@@ -55,17 +59,18 @@ fn main() -> ExitCode {
 fn expected() -> Vec<String> {
     let mut names = loads::expected();
     let ways = breaks().map(|way| way.name).chain(no_records().map(|way| way.name));
+    let ways = ways.chain(SHORT_BUFFERS.iter().map(|way| way.name));
     let records: Vec<&str> = ways.chain(edges().map(|edge| edge.name)).collect();
     for call in CALLS.map(Call::name) {
         names.extend(records.iter().map(|name| format!("{call}, {name}")));
         names.extend(LENDINGS.iter().map(|lending| format!("{call}, {}", lending.name)));
-        names.push(format!("{call}, 7 before 6"));
+        names.extend(["7", "255"].map(|number| format!("{call}, {number} before 6")));
     }
     let random =
         ["0", "6", "7"].map(|answer| format!("print, random words, step answers {answer}"));
     names.extend(random);
     names.extend(OUTPUTS.map(|name| format!("print, output {name}")));
-    names.extend(["print, 7 before 8", "print, 6 before 8"].map(str::to_string));
+    names.extend(["6", "7", "255"].map(|number| format!("print, {number} before 8")));
     names
 }
 
@@ -75,18 +80,19 @@ fn try_base(trials: &mut Trials, random: &mut Random) {
     try_fit(trials, random, &base);
     try_unfit(trials, random, &base);
     try_no_record(trials, random, &base);
+    try_short_buffer(trials, random, &base);
     (0..RANDOM).for_each(|_| try_random_record(trials, random, &base));
 }
 
 /// The record as it is, and at each edge of fitness.
 fn try_fit(trials: &mut Trials, random: &mut Random, base: &Base) {
-    try_record(trials, random, "a state of a run", base, &words_of(&base.machine), true);
+    try_record(trials, random, "a state of a run", base, &words_of(&base.machine), FIT);
     for edge in edges() {
         let mut changed = base.clone();
         (edge.put)(&mut changed.machine, random);
         changed.fit_memory(random);
         let words = words_of(&changed.machine);
-        try_record(trials, random, edge.name, &changed, &words, true);
+        try_record(trials, random, edge.name, &changed, &words, FIT);
     }
 }
 
@@ -97,11 +103,11 @@ fn try_unfit(trials: &mut Trials, random: &mut Random, base: &Base) {
         let mut changed = base.clone();
         (way.prepare)(&mut changed.machine);
         let prepared = words_of(&changed.machine);
-        try_record(trials, random, "a prepared record", &changed, &prepared, true);
+        try_record(trials, random, "a prepared record", &changed, &prepared, FIT);
         (way.spoil)(&mut changed.machine);
         changed.fit_memory(random);
         let spoilt = words_of(&changed.machine);
-        try_record(trials, random, way.name, &changed, &spoilt, false);
+        try_record(trials, random, way.name, &changed, &spoilt, NO_RECORD);
     }
 }
 
@@ -110,7 +116,16 @@ fn try_no_record(trials: &mut Trials, random: &mut Random, base: &Base) {
     for way in no_records() {
         let mut words = words_of(&base.machine).to_vec();
         (way.spoil)(&mut words, random);
-        try_record(trials, random, way.name, base, &words, false);
+        try_record(trials, random, way.name, base, &words, NO_RECORD);
+    }
+}
+
+/// The record's words, too few of them.
+fn try_short_buffer(trials: &mut Trials, random: &mut Random, base: &Base) {
+    for way in &SHORT_BUFFERS {
+        let mut words = words_of(&base.machine).to_vec();
+        (way.spoil)(&mut words, random);
+        try_record(trials, random, way.name, base, &words, SHORT_BUFFER);
     }
 }
 
@@ -126,30 +141,34 @@ fn try_random_record(trials: &mut Trials, random: &mut Random, base: &Base) {
     trials.try_call("random words", call, &lent, Due::Open);
 }
 
-/// The three calls over a record's words, in memory of some length.
+/// The three calls over a record's words, in memory of some length. The refusal
+/// that is due for the record comes before those for memory and output.
 fn try_record(
     trials: &mut Trials,
     random: &mut Random,
     name: &str,
     base: &Base,
     record: &[u64],
-    is_fit: bool,
+    refusal: u64,
 ) {
     for call in CALLS {
         let mut lent = Lent::of(random, record, &base.words, &base.labels);
         let lending = if random.chance(50) { LENDINGS[0] } else { random.pick(&LENDINGS) };
         lending.apply(random, &mut lent, base.words.len());
         let short_output = call == Call::Print && lend_output(trials, random, &mut lent);
-        let due = match (is_fit, lending.is_short() && !base.words.is_empty()) {
-            (false, _) => 7,
-            (true, true) => 6,
-            (true, false) => 8 * u64::from(short_output),
+        let due = match (refusal, lending.is_short() && !base.words.is_empty()) {
+            (FIT, true) => SHORT_MEMORY.into(),
+            (FIT, false) => u64::from(SHORT_OUTPUT) * u64::from(short_output),
+            (refusal, _) => refusal,
         };
         let (tally, call_name) = (&mut trials.tally, call.name());
         tally.count(&format!("{call_name}, {}", lending.name));
-        tally.count_if(due == 7 && lending.is_short(), &format!("{call_name}, 7 before 6"));
-        tally.count_if(due == 7 && short_output, "print, 7 before 8");
-        tally.count_if(due == 6 && short_output, "print, 6 before 8");
+        if refusal != FIT && lending.is_short() {
+            tally.count(&format!("{call_name}, {due} before 6"));
+        }
+        if due != u64::from(SHORT_OUTPUT) && short_output {
+            tally.count(&format!("print, {due} before 8"));
+        }
         let after = trials.try_call(name, call, &lent, Due::Number(due));
         if due == 0 {
             go_on(trials, call, after);
