@@ -78,7 +78,12 @@ extern "C" {
 uint64_t jennydusk_load(const uint8_t *text, size_t text_length, uint32_t *words, size_t words_length, uint8_t *labels,
                         size_t labels_length, uint64_t *record, size_t record_length);
 
-/* Does one step. Answers 0, 6, 7 or 255. An ended record steps to itself. */
+/* Does one step. Answers 0, 6, 7 or 255. An ended record steps to itself.
+ *
+ * What is proved of labels is about ticks, not about calls. How many steps a stretch of ticks holds may be a secret:
+ * whoever counts or times the calls of step, or looks at the memory after each, can learn it. A program that shows a run
+ * to others shows the state at tick k when k has come and not before, at a pace that ticks alone decide, and of it what
+ * their label sees. examples/c/tick.c does so. */
 uint64_t jennydusk_step(uint64_t *record, size_t record_length, uint32_t *words, size_t words_length, uint8_t *labels,
                         size_t labels_length);
 
@@ -86,15 +91,14 @@ uint64_t jennydusk_step(uint64_t *record, size_t record_length, uint32_t *words,
 uint64_t jennydusk_run(uint64_t *record, size_t record_length, uint32_t *words, size_t words_length, uint8_t *labels,
                        size_t labels_length);
 
-/* Writes the listing at the start of the output. Answers 0 and 256 times the listing's length, or 6, 7, 8 or
- * 255. */
+/* Writes the listing at the start of the output. Answers 0 and 256 times the listing's length, or 6, 7, 8 or 255. */
 uint64_t jennydusk_print(const uint64_t *record, size_t record_length, const uint32_t *words, size_t words_length,
                          const uint8_t *labels, size_t labels_length, uint8_t *output, size_t output_length);
 
 /* ---- labels: the byte i * 16 + c. The integrity i is the set of those by whom a thing is trusted, the confidentiality c
  * the set of those whose secrets it may hold. There are four principals, one bit each. Every byte is a label. */
-#define JENNYDUSK_LOWEST 240 /* trusted by all, and no secret */
-#define JENNYDUSK_HIGHEST 15 /* trusted by none, and a secret of all */
+#define JENNYDUSK_LOWEST 240 /* trusted by all; it holds nobody's secrets */
+#define JENNYDUSK_HIGHEST 15 /* trusted by none; it may hold everyone's secrets */
 
 /* Whether what bears the label `from` may reach what bears `to`: all by whom `to` is trusted trust `from` too, and `to`
  * may hold the secrets of all whose secrets `from` may hold. */

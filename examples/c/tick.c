@@ -2,9 +2,10 @@
  *
  * usage: tick IMAGE LABEL [MICROSECONDS]      MICROSECONDS: the length of a tick, 0 if not given
  *
- * At each tick at which something seen has changed it writes the tick and what is seen, as a listing: what is hidden
- * stands there with value 0 and the highest label, and a hidden control has no line. How many steps a stretch of ticks
- * holds may be a secret, so each tick has one wait, until a time that no step decides, and writes after it. */
+ * At each tick at which something seen has changed it writes the tick and what is seen, as a listing. What is hidden
+ * stands there with value 0 and the highest label, which is seen where nothing is hidden; a hidden control has no line.
+ * How many steps a stretch of ticks holds may be a secret, so each tick has one wait, until a time that no step decides,
+ * and writes after it. */
 #define _POSIX_C_SOURCE 200809L
 #include "jennydusk.h"
 
@@ -17,7 +18,6 @@
 #define WORDS 2048
 #define BYTES 65536 /* room for a text that load refuses as too long, and for every listing */
 #define REGISTERS 16
-#define HIGHEST 15 /* what has this label is seen at this label alone, and there nothing is hidden */
 #define MICROSECOND 1000L
 #define SECOND 1000000000L
 
@@ -33,13 +33,13 @@ static void need(bool good, const char *what, const char *why) {
     exit(2);
 }
 
-static bool seen(uint64_t label, uint8_t viewer) { return !((viewer & ~label) >> 4 & 15) && !(label & ~viewer & 15); }
+static bool seen(uint64_t label, uint8_t viewer) { return jennydusk_flows((uint8_t)label, viewer); }
 
 static void hide_registers(struct state *s, uint8_t viewer) {
     for (size_t i = 0; i < REGISTERS; i++) {
         if (seen(s->record[JENNYDUSK_LABEL(i)], viewer)) continue;
         s->record[JENNYDUSK_VALUE(i)] = 0;
-        s->record[JENNYDUSK_LABEL(i)] = HIGHEST;
+        s->record[JENNYDUSK_LABEL(i)] = JENNYDUSK_HIGHEST;
     }
 }
 
@@ -47,7 +47,7 @@ static void hide_words(struct state *s, uint8_t viewer) {
     for (size_t i = 0; i < WORDS; i++) {
         if (seen(s->labels[i], viewer)) continue;
         s->words[i] = 0;
-        s->labels[i] = HIGHEST;
+        s->labels[i] = JENNYDUSK_HIGHEST;
     }
 }
 
