@@ -1,0 +1,235 @@
+//! The library's C functions, as `include/jennydusk.h` declares them, and safe
+//! calls over them. What an image means is asked here and nowhere else.
+
+#![allow(unsafe_code)]
+
+/// As many words as a machine can have: memory of this length is never short.
+pub const WORDS: usize = 2048;
+pub const REGISTERS: usize = 16;
+/// An image has at most so many bytes.
+pub const TEXT: usize = 65_535;
+
+/// The ends of a run, and why it stalled.
+pub const RUNNING: u64 = 0;
+pub const HALTED: u64 = 1;
+pub const CLOCK_SPENT: u64 = 2;
+pub const STALLED: u64 = 3;
+pub const WHY_PC: u64 = 1;
+pub const WHY_LABEL: u64 = 2;
+pub const WHY_OP: u64 = 3;
+
+/// The kinds of a call.
+pub const GATE_CALL: u64 = 1;
+pub const UPCALL: u64 = 2;
+
+/// The record's layout: the place of each field in its buffer.
+mod place {
+    pub const SPAN: usize = 76;
+    pub const SIZE: usize = 0;
+    pub const LIMIT: usize = 1;
+    pub const ERROR_PC: usize = 2;
+    pub const GATE_COUNT: usize = 3;
+    pub const GATES: usize = 4;
+    pub const GATE_SPAN: usize = 3;
+    pub const PC: usize = 28;
+    pub const PC_LABEL: usize = 29;
+    pub const TIMING_LABEL: usize = 30;
+    pub const CLOCK: usize = 31;
+    pub const CALLS: usize = 32;
+    pub const CALL_SPAN: usize = 5;
+    pub const CALL_COUNT: usize = 2;
+    pub const END: usize = 42;
+    pub const WHY: usize = 43;
+    pub const VALUES: usize = 44;
+    pub const LABELS: usize = 60;
+}
+
+/// An answer is a number, with a line or a length above it.
+const NUMBERS: u64 = 256;
+const DONE: u64 = 0;
+const SHORT_OUTPUT: u64 = 8;
+/// Longer than any listing, which has some 46,000 bytes at most.
+const LISTING: usize = 65_536;
+
+#[rustfmt::skip]
+#[link(name = "jennydusk", kind = "static")]
+extern "C" {
+    fn jennydusk_load(text: *const u8, text_length: usize, words: *mut u32, words_length: usize, labels: *mut u8, labels_length: usize, record: *mut u64, record_length: usize) -> u64;
+    fn jennydusk_step(record: *mut u64, record_length: usize, words: *mut u32, words_length: usize, labels: *mut u8, labels_length: usize) -> u64;
+    fn jennydusk_run(record: *mut u64, record_length: usize, words: *mut u32, words_length: usize, labels: *mut u8, labels_length: usize) -> u64;
+    fn jennydusk_print(record: *const u64, record_length: usize, words: *const u32, words_length: usize, labels: *const u8, labels_length: usize, output: *mut u8, output_length: usize) -> u64;
+}
+
+/// Why a text is no image: the refusal's number and line.
+#[derive(Clone, Copy, Debug, PartialEq, Eq)]
+pub struct Refusal {
+    pub number: u8,
+    pub line: usize,
+}
+
+/// A pc label and a timing label.
+#[derive(Clone, Copy, Debug, PartialEq, Eq)]
+pub struct Pair {
+    pub pc_label: u8,
+    pub timing_label: u8,
+}
+
+#[derive(Clone, Copy, Debug, PartialEq, Eq)]
+pub struct Gate {
+    pub pc: u32,
+    pub pair: Pair,
+}
+
+/// An open call; the end tick is an upcall's.
+#[derive(Clone, Copy, Debug, PartialEq, Eq)]
+pub struct Call {
+    pub kind: u64,
+    pub return_pc: u32,
+    pub pair: Pair,
+    pub end_tick: u64,
+}
+
+/// A register or a word.
+#[derive(Clone, Copy, Debug, PartialEq, Eq)]
+pub struct Cell {
+    pub label: u8,
+    pub value: u32,
+}
+
+/// A machine: its record, and memory as long as a machine can need.
+#[derive(Debug, PartialEq, Eq)]
+pub struct Machine {
+    record: [u64; place::SPAN],
+    words: Vec<u32>,
+    labels: Vec<u8>,
+}
+
+/// Copying one machine over another takes no new memory.
+impl Clone for Machine {
+    fn clone(&self) -> Machine {
+        Machine { record: self.record, words: self.words.clone(), labels: self.labels.clone() }
+    }
+
+    fn clone_from(&mut self, other: &Machine) {
+        self.record = other.record;
+        self.words.clone_from(&other.words);
+        self.labels.clone_from(&other.labels);
+    }
+}
+
+/// The calls. Every pointer is that of a slice of the length beside it, and
+/// slices that may be changed overlap no other.
+#[rustfmt::skip]
+impl Machine {
+    pub fn load(text: &[u8]) -> Result<Machine, Refusal> {
+        let mut machine = Machine { record: [0; place::SPAN], words: vec![0; WORDS], labels: vec![0; WORDS] };
+        let Machine { record, words, labels } = &mut machine;
+        let answer = unsafe { jennydusk_load(text.as_ptr(), text.len(), words.as_mut_ptr(), words.len(), labels.as_mut_ptr(), labels.len(), record.as_mut_ptr(), record.len()) };
+        if answer == DONE { Ok(machine) } else { Err(Refusal { number: (answer % NUMBERS) as u8, line: (answer / NUMBERS) as usize }) }
+    }
+
+    pub fn step(&mut self) {
+        let Machine { record, words, labels } = self;
+        let answer = unsafe { jennydusk_step(record.as_mut_ptr(), record.len(), words.as_mut_ptr(), words.len(), labels.as_mut_ptr(), labels.len()) };
+        assert_eq!(answer, DONE, "a loaded record in whole memory is stepped");
+    }
+
+    pub fn run(&mut self) {
+        let Machine { record, words, labels } = self;
+        let answer = unsafe { jennydusk_run(record.as_mut_ptr(), record.len(), words.as_mut_ptr(), words.len(), labels.as_mut_ptr(), labels.len()) };
+        assert_eq!(answer, DONE, "a loaded record in whole memory is run");
+    }
+
+    pub fn listing(&self) -> Vec<u8> {
+        let Machine { record, words, labels } = self;
+        let mut output = vec![0; LISTING];
+        let answer = unsafe { jennydusk_print(record.as_ptr(), record.len(), words.as_ptr(), words.len(), labels.as_ptr(), labels.len(), output.as_mut_ptr(), output.len()) };
+        assert_eq!(answer % NUMBERS, DONE, "a listing is shorter than its output ({SHORT_OUTPUT} says that it isn't)");
+        output.truncate((answer / NUMBERS) as usize);
+        output
+    }
+}
+
+/// What the record and the memory hold.
+impl Machine {
+    pub fn size(&self) -> usize {
+        self.record[place::SIZE] as usize
+    }
+
+    pub fn limit(&self) -> u64 {
+        self.record[place::LIMIT]
+    }
+
+    pub fn error_pc(&self) -> u32 {
+        self.record[place::ERROR_PC] as u32
+    }
+
+    pub fn gates(&self) -> Vec<Gate> {
+        let count = self.record[place::GATE_COUNT] as usize;
+        let fields = self.record[place::GATES..].chunks(place::GATE_SPAN).take(count);
+        fields.map(|gate| Gate { pc: gate[0] as u32, pair: pair(gate[1], gate[2]) }).collect()
+    }
+
+    pub fn pc(&self) -> u32 {
+        self.record[place::PC] as u32
+    }
+
+    pub fn pair(&self) -> Pair {
+        pair(self.record[place::PC_LABEL], self.record[place::TIMING_LABEL])
+    }
+
+    pub fn clock(&self) -> u64 {
+        self.record[place::CLOCK]
+    }
+
+    pub fn end(&self) -> u64 {
+        self.record[place::END]
+    }
+
+    pub fn why(&self) -> u64 {
+        self.record[place::WHY]
+    }
+
+    /// The open calls, the older first.
+    pub fn calls(&self) -> Vec<Call> {
+        let fields = self.record[place::CALLS..].chunks(place::CALL_SPAN).take(place::CALL_COUNT);
+        fields.filter(|call| call[0] != 0).map(call).collect()
+    }
+
+    pub fn register(&self, number: usize) -> Cell {
+        let label = self.record[place::LABELS + number] as u8;
+        Cell { label, value: self.record[place::VALUES + number] as u32 }
+    }
+
+    /// A word below the size.
+    pub fn word(&self, address: usize) -> Cell {
+        Cell { label: self.labels[address], value: self.words[address] }
+    }
+
+    /// Whether two machines have the same memory.
+    pub fn same_memory(&self, other: &Machine) -> bool {
+        self.words == other.words && self.labels == other.labels
+    }
+}
+
+fn pair(pc_label: u64, timing_label: u64) -> Pair {
+    Pair { pc_label: pc_label as u8, timing_label: timing_label as u8 }
+}
+
+fn call(fields: &[u64]) -> Call {
+    let [kind, return_pc, pc_label, timing_label, end_tick] = *fields else {
+        unreachable!("a call has five words")
+    };
+    Call { kind, return_pc: return_pc as u32, pair: pair(pc_label, timing_label), end_tick }
+}
+
+// Stand-in for the label calls: to be deleted once the library has them.
+pub fn flows(from: u8, to: u8) -> bool {
+    (to >> 4) & !(from >> 4) == 0 && (from & 15) & !(to & 15) == 0
+}
+pub fn is_sound(label: u8) -> bool {
+    (label & 15) & !(label >> 4) == 0
+}
+pub fn is_valid_pair(pc_label: u8, timing_label: u8) -> bool {
+    flows(pc_label, timing_label) && is_sound(pc_label) && is_sound(timing_label)
+}
