@@ -113,6 +113,15 @@ impl Op {
         u32::from(self.number) << OP_SHIFT
     }
 
+    /// How a source writes the op: `load Ra, [Rb]`.
+    pub fn pattern(&self) -> String {
+        let operand = |text| match Piece::of(text) {
+            Piece::Register(_) => format!("R{text}"),
+            _ => text.to_string(),
+        };
+        self.with_operands(operand)
+    }
+
     /// The op as a source has it, with the operands of a word; `place` writes
     /// a place.
     pub fn written(&self, word: u32, place: impl Fn(u32) -> String) -> String {
@@ -122,6 +131,10 @@ impl Op {
             piece @ Piece::Place => place(piece.decode(word)),
             Piece::Mark(mark) => mark.to_string(),
         };
+        self.with_operands(operand)
+    }
+
+    fn with_operands(&self, operand: impl Fn(&'static str) -> String) -> String {
         let operands: String = split(self.operands).into_iter().map(operand).collect();
         format!("{} {operands}", self.name).trim_end().to_string()
     }

@@ -1,0 +1,163 @@
+//! From a source's text to an image's lines, or to all that is wrong with it.
+
+use super::fields::{self, Context};
+use super::layout::{layout, Content, Directive, Layout, Word};
+use super::parser::{self, Argument, Operand, Statement};
+use super::{Definition, Error, Position};
+use crate::image::{self, Cell, Gate, Line, Machine};
+use crate::library;
+use crate::ops::{Op, Piece};
+use crate::refusals;
+use std::collections::BTreeMap;
+
+/// An image's line, and where in the source it comes from.
+pub struct Origin {
+    pub line: Line,
+    pub at: Position,
+    /// The op that the source has there.
+    pub op: Option<&'static Op>,
+}
+
+/// An image assembled, line by line.
+pub struct Assembled {
+    pub lines: Vec<Origin>,
+}
+
+impl Assembled {
+    pub fn image(&self) -> String {
+        image::written(self.lines.iter().map(|origin| &origin.line))
+    }
+}
+
+/// Assembles a source. The definitions are for its parameters.
+pub fn assemble(source: &str, given: &[Definition]) -> Result<Assembled, Vec<Error>> {
+    let mut errors = Vec::new();
+    let read = |(index, text)| parser::statement(text, index + 1, &mut errors);
+    let statements: Vec<Statement> = source.lines().enumerate().map(read).collect();
+    let mut layout = layout(&statements, given);
+    errors.append(&mut layout.errors);
+    let assembled = Assembler::new(&layout, &mut errors).assemble();
+    errors.sort();
+    match errors.is_empty() {
+        true => Ok(assembled),
+        false => Err(errors),
+    }
+}
+
+struct Assembler<'a, 'b> {
+    layout: &'b Layout<'a, 'b>,
+    context: Context<'a, 'b>,
+    lines: Vec<Origin>,
+}
+
+/// A part of the image by number or address, each of which can be there once.
+type Cells = BTreeMap<u32, Origin>;
+
+impl<'a, 'b> Assembler<'a, 'b> {
+    fn new(layout: &'b Layout<'a, 'b>, errors: &'b mut Vec<Error>) -> Assembler<'a, 'b> {
+        let context = Context { names: &layout.names, size: None, errors };
+        Assembler { layout, context, lines: Vec::new() }
+    }
+
+    fn assemble(mut self) -> Assembled {
+        let layout = self.layout;
+        self.machine();
+        layout.gates.iter().for_each(|gate| self.gate(gate));
+        let mut registers = Cells::new();
+        layout.registers.iter().for_each(|register| self.register(register, &mut registers));
+        let mut words = Cells::new();
+        layout.words.iter().for_each(|word| self.word(word, &mut words));
+        self.lines.extend(registers.into_values().chain(words.into_values()));
+        let assembled = Assembled { lines: self.lines };
+        let refused = refused(&assembled, self.context.errors);
+        self.context.errors.extend(refused);
+        assembled
+    }
+
+    fn machine(&mut self) {
+        let Some(Directive { at, givens }) = self.layout.machine else {
+            return self.context.errors.push(Error::whole("there is no `.machine`"));
+        };
+        self.context.size = fields::size(givens, self.context.names);
+        let values = self.context.fields(at, givens, &fields::MACHINE);
+        let [Some(size), Some(error), Some(start), Some(p), Some(t), Some(limit)] = values else { return };
+        let machine = Machine { size, error, start, p: label(p), t: label(t), limit };
+        self.lines.push(Origin { line: Line::Machine(machine), at, op: None });
+    }
+
+    fn gate(&mut self, directive: &Directive) {
+        let Directive { at, givens } = *directive;
+        let [place, p, t] = self.context.fields(at, givens, &fields::GATE);
+        let [place, p, t] = [place, p, t].map(Option::unwrap_or_default);
+        let gate = Gate { place, p: label(p), t: label(t) };
+        self.lines.push(Origin { line: Line::Gate(gate), at, op: None });
+    }
+
+    fn register(&mut self, (number, directive): &(Option<u32>, Directive), registers: &mut Cells) {
+        let Directive { at, givens } = *directive;
+        let values = self.context.fields(at, givens, &fields::REGISTER);
+        let (Some(number), [Some(of), Some(value)]) = (*number, values) else { return };
+        let line = Line::Register(Cell { number, label: label(of), value });
+        let taken = add(registers, number, Origin { line, at, op: None });
+        let message = |line| format!("R{number} has a `.register` already, in line {line}");
+        self.context.errors.extend(taken.map(|line| Error::new(at, message(line))));
+    }
+
+    fn word(&mut self, word: &Word, words: &mut Cells) {
+        let at = word.at;
+        let (value, op) = match word.content {
+            Content::Op(op, operands) => (self.encode(op, operands), Some(op)),
+            Content::Value(value) => (self.context.value(value, &fields::WORD), None),
+            Content::Broken => (None, None),
+        };
+        let Some(number) = word.address else { return };
+        if let Some(size) = self.context.size.filter(|size| number >= *size) {
+            let message = format!("address {number} is outside: the size is {size}");
+            return self.context.errors.push(Error::new(at, message));
+        }
+        let cell = Cell { number, label: label(word.label.unwrap_or_default()), value: value.unwrap_or_default() };
+        let taken = add(words, number, Origin { line: Line::Word(cell), at, op });
+        let message = |line| format!("address {number} has a word already, from line {line}");
+        self.context.errors.extend(taken.map(|line| Error::new(at, message(line))));
+    }
+
+    /// The word of an op, none if an operand is wrong.
+    fn encode(&mut self, op: &Op, operands: &[Operand]) -> Option<u32> {
+        let values: Vec<Option<u32>> = operands.iter().map(|operand| self.operand(operand)).collect();
+        values.into_iter().try_fold(op.bare(), |word, bits| Some(word + bits?))
+    }
+
+    fn operand(&mut self, operand: &Operand) -> Option<u32> {
+        let value = match (&operand.argument, operand.piece) {
+            (Argument::Register(number), _) => *number,
+            (Argument::Value(value), Piece::Place) => self.context.value(value, &fields::TARGET),
+            (Argument::Value(value), _) => self.context.value(value, &fields::N),
+            (Argument::Mark, _) => Some(0),
+        };
+        value.map(|value| operand.piece.encode(value))
+    }
+}
+
+/// A number that the table of fields has let pass as a label.
+fn label(number: u32) -> u8 {
+    u8::try_from(number).expect("a label is at most 255")
+}
+
+/// Adds a part where there is none yet, else tells the line of that one.
+fn add(cells: &mut Cells, number: u32, origin: Origin) -> Option<usize> {
+    let first = cells.get(&number).map(|first| first.at.line);
+    cells.entry(number).or_insert(origin);
+    first
+}
+
+/// What the library's loader says against the image, unless something is said
+/// against that line of the source already.
+fn refused(assembled: &Assembled, errors: &[Error]) -> Option<Error> {
+    let Some(Line::Machine(_)) = assembled.lines.first().map(|first| first.line) else { return None };
+    let text = assembled.image();
+    let refusal = library::Machine::load(text.as_bytes()).err()?;
+    let at = assembled.lines[refusal.line.max(1) - 1].at;
+    let is_known = errors.iter().any(|error| error.at.is_some_and(|known| known.line == at.line));
+    let message = format!("the loader refuses this: {}, {}", refusal.number, refusals::cause(text.as_bytes(), &refusal));
+    (!is_known).then(|| Error::new(at, message))
+}
