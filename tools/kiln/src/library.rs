@@ -212,6 +212,65 @@ impl Machine {
     }
 }
 
+/// Questions that a step on a copy answers.
+impl Machine {
+    /// Why the next fetch fails, or 0. At the error pc, outside a call, a failed
+    /// fetch stalls, and a stall says why.
+    pub fn why_fetch_fails(&self) -> u64 {
+        let mut copy = self.alone();
+        copy.record[place::ERROR_PC] = copy.record[place::PC];
+        copy.step();
+        copy.why()
+    }
+
+    /// Whether the next op is a branch, a jump or the end of an upcall that fails
+    /// its check here: in an upcall each of these closes it.
+    pub fn fails_in_an_upcall(&self) -> bool {
+        let mut copy = self.alone();
+        let Pair { pc_label, timing_label } = self.pair();
+        let call = [UPCALL, 0, pc_label.into(), timing_label.into(), LONG_ENOUGH];
+        copy.record[place::CALLS..][..place::CALL_SPAN].copy_from_slice(&call);
+        copy.step();
+        copy.calls().is_empty()
+    }
+
+    /// Whether the next op would give register a or a word another value, were
+    /// their labels the highest, to which all labels flow.
+    pub fn is_stopped_by_a_label(&self, register: usize) -> bool {
+        let mut copy = self.clone();
+        let pc = self.pc() as usize;
+        copy.record[place::LABELS + register] = HIGHEST.into();
+        copy.labels[..self.size()].fill(HIGHEST);
+        copy.labels[pc] = self.labels[pc];
+        copy.step();
+        copy.register(register).value != self.register(register).value || copy.words != self.words
+    }
+
+    /// Whether the next op writes register a or a word, were the value of one
+    /// register another: it then changes nothing for the value alone.
+    pub fn writes_with_another(&self, register: usize, a: usize) -> bool {
+        let mut copy = self.clone();
+        copy.record[place::VALUES + register] ^= 1;
+        let before = copy.register(a).value;
+        copy.step();
+        copy.register(a).value != before || copy.words != self.words
+    }
+
+    /// The same state at tick 0 without open calls, and with all the time there is.
+    fn alone(&self) -> Machine {
+        let mut copy = self.clone();
+        copy.record[place::CALLS..place::END].fill(0);
+        copy.record[place::CLOCK] = 0;
+        copy.record[place::LIMIT] = LONGEST_LIMIT;
+        copy
+    }
+}
+
+/// The greatest limit, and ticks that are more than any op's.
+const LONGEST_LIMIT: u64 = 16_777_216;
+const LONG_ENOUGH: u64 = 100;
+const HIGHEST: u8 = 15;
+
 fn pair(pc_label: u64, timing_label: u64) -> Pair {
     Pair { pc_label: pc_label as u8, timing_label: timing_label as u8 }
 }

@@ -10,6 +10,7 @@ mod files;
 mod image;
 mod labels;
 mod library;
+mod listing;
 mod ops;
 mod refusals;
 mod run;

@@ -29,7 +29,7 @@ pub fn in_words(name: &str, text: &[u8], refusal: &Refusal) -> String {
     }
 }
 
-fn cause(text: &[u8], refusal: &Refusal) -> &'static str {
+pub fn cause(text: &[u8], refusal: &Refusal) -> &'static str {
     let lines: Vec<&[u8]> = text.split(|byte| *byte == LF).take(refusal.line).collect();
     let (line, before) = lines.split_last().unwrap_or((&text, &[]));
     match refusal.number {

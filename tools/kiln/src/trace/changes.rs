@@ -1,0 +1,135 @@
+//! What differs between two states, as far as it is within sight, in words.
+
+use super::lines::HIDDEN;
+use super::sight::Sight;
+use crate::library::{
+    Call, Cell, Machine, Pair, CLOCK_SPENT, HALTED, REGISTERS, RUNNING, UPCALL, WHY_LABEL, WHY_PC,
+};
+use crate::ops::{self, Fields};
+
+const CHECK_FAILS: &str = "! no effect: the check fails";
+
+/// Every change but that of the clock, and of the pc by 1.
+pub fn between(before: &Machine, after: &Machine, sight: &Sight) -> Vec<String> {
+    let mut changes = Vec::new();
+    for number in 0..REGISTERS {
+        let cells = (before.register(number), after.register(number));
+        changes.extend(cell(&format!("R{number}"), cells, sight));
+    }
+    if !before.same_memory(after) {
+        let cells = |address| (before.word(address), after.word(address));
+        let words = 0..after.size();
+        changes.extend(words.flat_map(|at| cell(&format!("word {at}"), cells(at), sight)));
+    }
+    match (sight.control(before), sight.control(after)) {
+        (true, true) => changes.extend(control_changes(before, after)),
+        (true, false) => changes.push(HIDDEN.to_string()),
+        (false, true) => changes.extend(control(after)),
+        (false, false) => {}
+    }
+    changes
+}
+
+fn cell(name: &str, (before, after): (Cell, Cell), sight: &Sight) -> Vec<String> {
+    if before == after {
+        return Vec::new();
+    }
+    match (sight.cell(before), sight.cell(after)) {
+        (Some(before), Some(after)) => {
+            let label = format!("label of {name} := {}", after.label);
+            let label = (before.label != after.label).then_some(label);
+            let value = format!("{name} := {}", after.value);
+            (before.value != after.value).then_some(value).into_iter().chain(label).collect()
+        }
+        (None, Some(after)) => vec![format!("{} comes in sight", location(name, after))],
+        (Some(_), None) => vec![format!("{name} goes out of sight")],
+        (None, None) => Vec::new(),
+    }
+}
+
+/// A register or a word with its label and value.
+pub fn location(name: &str, cell: Cell) -> String {
+    format!("{name}: label {}, value {}", cell.label, cell.value)
+}
+
+/// The control as it stands: pc, pair, open calls and end.
+pub fn control(machine: &Machine) -> Vec<String> {
+    let place = [format!("pc {}", machine.pc()), pair(machine.pair())];
+    let calls = machine.calls().into_iter().map(open);
+    place.into_iter().chain(calls).chain(end(machine)).collect()
+}
+
+fn control_changes(before: &Machine, after: &Machine) -> Vec<String> {
+    let mut changes = Vec::new();
+    let (old, new) = (before.calls(), after.calls());
+    changes.extend(old.iter().filter(|call| !new.contains(call)).map(|call| closed(*call)));
+    changes.extend(new.iter().filter(|call| !old.contains(call)).map(|call| open(*call)));
+    if before.pair() != after.pair() {
+        changes.push(pair(after.pair()));
+    }
+    let goes_on = u64::from(after.pc()) == u64::from(before.pc()) + 1;
+    if after.end() == RUNNING && (!goes_on || before.why_fetch_fails() != 0) {
+        changes.push(format!("to {}", after.pc()));
+    }
+    changes.extend(end(after));
+    changes
+}
+
+fn pair(pair: Pair) -> String {
+    format!("pair {} {}", pair.pc_label, pair.timing_label)
+}
+
+fn open(call: Call) -> String {
+    let back = format!("back to {} with {}", call.return_pc, pair(call.pair));
+    match call.kind {
+        UPCALL => format!("upcall open to tick {}, then {back}", call.end_tick),
+        _ => format!("gate call open, then {back}"),
+    }
+}
+
+fn closed(call: Call) -> String {
+    let kind = if call.kind == UPCALL { "upcall" } else { "gate call" };
+    format!("{kind} closed")
+}
+
+fn end(machine: &Machine) -> Option<String> {
+    let why = match machine.why() {
+        WHY_PC => "the pc is not below the size",
+        WHY_LABEL => "the word's label doesn't flow to the pc label",
+        _ => "the op is unknown",
+    };
+    match machine.end() {
+        RUNNING => None,
+        HALTED => Some("halted".to_string()),
+        CLOCK_SPENT => Some("clock spent".to_string()),
+        _ => Some(format!("stalled: {why}")),
+    }
+}
+
+/// What is told of a step that changes nothing but pc and clock.
+pub fn without_effect(before: &Machine) -> &'static str {
+    if let Some(told) = passed_by(before) {
+        return told;
+    }
+    let Fields { a, c, .. } = ops::fields(before.word(before.pc() as usize).value);
+    if before.is_stopped_by_a_label(a) {
+        return CHECK_FAILS;
+    }
+    match before.writes_with_another(a, a) || before.writes_with_another(c, a) {
+        true => "the same value",
+        false => "! no effect",
+    }
+}
+
+/// What is told of a branch or jump that doesn't go; nothing of other ops. The
+/// labels that such a check reads flow to the pc label or it fails, so whoever
+/// sees the control may know.
+pub fn passed_by(before: &Machine) -> Option<&'static str> {
+    let word = before.word(before.pc() as usize).value;
+    match ops::target(word) {
+        _ if before.fails_in_an_upcall() => Some(CHECK_FAILS),
+        None => None,
+        Some(place) if place == before.pc() + 1 => Some("to the next word in either case"),
+        Some(_) => Some("not taken"),
+    }
+}
