@@ -76,13 +76,28 @@ impl<'a, 'b> Assembler<'a, 'b> {
 
     fn machine(&mut self) {
         let Some(Directive { at, givens }) = self.layout.machine else {
-            return self.context.errors.push(Error::whole("there is no `.machine`"));
+            let start = Position { line: 1, column: 1 };
+            return self.context.errors.push(Error::new(start, "there is no `.machine` in this source"));
         };
         self.context.size = fields::size(givens, self.context.names);
         let values = self.context.fields(at, givens, &fields::MACHINE);
+        if let [_, _, _, Some(p), Some(t), _] = values {
+            self.check_pair(at, label(p), label(t));
+        }
         let [Some(size), Some(error), Some(start), Some(p), Some(t), Some(limit)] = values else { return };
         let machine = Machine { size, error, start, p: label(p), t: label(t), limit };
         self.lines.push(Origin { line: Line::Machine(machine), at, op: None });
+    }
+
+    /// Asks the loader about the pair, whatever is wrong with the other fields.
+    /// A gate's pair need not be valid: the call tries it.
+    fn check_pair(&mut self, at: Position, p: u8, t: u8) {
+        let smallest = Line::Machine(Machine { size: 1, limit: 1, p, t, ..Machine::default() });
+        let text = image::written([smallest].iter());
+        if library::Machine::load(text.as_bytes()).is_err() {
+            let message = format!("the pair {p}, {t} isn't valid: p and t must be sound, and p must flow to t");
+            self.context.errors.push(Error::new(at, message));
+        }
     }
 
     fn gate(&mut self, directive: &Directive) {

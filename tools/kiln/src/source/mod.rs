@@ -89,7 +89,7 @@ impl fmt::Display for Quoted<'_> {
     fn fmt(&self, to: &mut fmt::Formatter) -> fmt::Result {
         match self.0 {
             "" => write!(to, "the end of the line"),
-            text => write!(to, "`{text}`"),
+            text => write!(to, "`{}`", text.escape_debug()),
         }
     }
 }
