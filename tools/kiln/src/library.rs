@@ -13,13 +13,11 @@ pub const TEXT: usize = 65_535;
 pub const RUNNING: u64 = 0;
 pub const HALTED: u64 = 1;
 pub const CLOCK_SPENT: u64 = 2;
-pub const STALLED: u64 = 3;
 pub const WHY_PC: u64 = 1;
 pub const WHY_LABEL: u64 = 2;
 pub const WHY_OP: u64 = 3;
 
-/// The kinds of a call.
-pub const GATE_CALL: u64 = 1;
+/// The kind of a call that is an upcall.
 pub const UPCALL: u64 = 2;
 
 /// The record's layout: the place of each field in its buffer.
@@ -28,9 +26,6 @@ mod place {
     pub const SIZE: usize = 0;
     pub const LIMIT: usize = 1;
     pub const ERROR_PC: usize = 2;
-    pub const GATE_COUNT: usize = 3;
-    pub const GATES: usize = 4;
-    pub const GATE_SPAN: usize = 3;
     pub const PC: usize = 28;
     pub const PC_LABEL: usize = 29;
     pub const TIMING_LABEL: usize = 30;
@@ -72,12 +67,6 @@ pub struct Refusal {
 pub struct Pair {
     pub pc_label: u8,
     pub timing_label: u8,
-}
-
-#[derive(Clone, Copy, Debug, PartialEq, Eq)]
-pub struct Gate {
-    pub pc: u32,
-    pub pair: Pair,
 }
 
 /// An open call; the end tick is an upcall's.
@@ -158,16 +147,6 @@ impl Machine {
 
     pub fn limit(&self) -> u64 {
         self.record[place::LIMIT]
-    }
-
-    pub fn error_pc(&self) -> u32 {
-        self.record[place::ERROR_PC] as u32
-    }
-
-    pub fn gates(&self) -> Vec<Gate> {
-        let count = self.record[place::GATE_COUNT] as usize;
-        let fields = self.record[place::GATES..].chunks(place::GATE_SPAN).take(count);
-        fields.map(|gate| Gate { pc: gate[0] as u32, pair: pair(gate[1], gate[2]) }).collect()
     }
 
     pub fn pc(&self) -> u32 {
@@ -285,10 +264,4 @@ fn call(fields: &[u64]) -> Call {
 // Stand-in for the label calls: to be deleted once the library has them.
 pub fn flows(from: u8, to: u8) -> bool {
     (to >> 4) & !(from >> 4) == 0 && (from & 15) & !(to & 15) == 0
-}
-pub fn is_sound(label: u8) -> bool {
-    (label & 15) & !(label >> 4) == 0
-}
-pub fn is_valid_pair(pc_label: u8, timing_label: u8) -> bool {
-    flows(pc_label, timing_label) && is_sound(pc_label) && is_sound(timing_label)
 }
