@@ -60,19 +60,24 @@ pub fn control(machine: &Machine) -> Vec<String> {
 }
 
 fn control_changes(before: &Machine, after: &Machine) -> Vec<String> {
-    let mut changes = Vec::new();
     let (old, new) = (before.calls(), after.calls());
+    let mut changes: Vec<String> = Vec::new();
     changes.extend(old.iter().filter(|call| !new.contains(call)).map(|call| closed(*call)));
+    let goes_on = changes.is_empty() && before.why_fetch_fails() == 0 && is_next(before, after);
+    let stays = after.end() != RUNNING && after.pc() == before.pc();
     changes.extend(new.iter().filter(|call| !old.contains(call)).map(|call| open(*call)));
     if before.pair() != after.pair() {
         changes.push(pair(after.pair()));
     }
-    let goes_on = u64::from(after.pc()) == u64::from(before.pc()) + 1;
-    if after.end() == RUNNING && (!goes_on || before.why_fetch_fails() != 0) {
+    if !goes_on && !stays {
         changes.push(format!("to {}", after.pc()));
     }
     changes.extend(end(after));
     changes
+}
+
+fn is_next(before: &Machine, after: &Machine) -> bool {
+    u64::from(after.pc()) == u64::from(before.pc()) + 1
 }
 
 fn pair(pair: Pair) -> String {
