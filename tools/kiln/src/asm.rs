@@ -34,7 +34,8 @@ fn write(arguments: &Arguments, source: &str, assembled: &Assembled) -> Result<(
 
 fn definitions(given: &[String]) -> Result<Vec<Definition>, Failure> {
     let read = |text: &String| {
-        Definition::parse(text).ok_or_else(|| Failure::refused(format!("kiln asm: -D {text}: NAME=VALUE is wanted")))
+        Definition::parse(text)
+            .ok_or_else(|| Failure::refused(format!("kiln asm: -D {text}: NAME=VALUE is wanted")))
     };
     given.iter().map(read).collect()
 }

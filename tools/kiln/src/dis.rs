@@ -15,9 +15,11 @@ const INDENT: usize = 8;
 
 pub fn dis(arguments: &Arguments) -> Result<Status, Failure> {
     let text = files::read_image(&arguments.file)?;
-    library::Machine::load(&text).map_err(|refusal| refusals::failure(&arguments.file, &text, &refusal))?;
+    library::Machine::load(&text)
+        .map_err(|refusal| refusals::failure(&arguments.file, &text, &refusal))?;
     // The loader accepts digits, commas, four letters and LF alone.
-    let lines = image::parse(&String::from_utf8_lossy(&text)).expect("an accepted image has lines of known form");
+    let lines = image::parse(&String::from_utf8_lossy(&text))
+        .expect("an accepted image has lines of known form");
     files::write(arguments.output.as_deref(), source(&lines).as_bytes())?;
     Ok(Status::Done)
 }
@@ -60,9 +62,13 @@ impl Places {
         match line {
             Line::Machine(Machine { size, error, start, p, t, limit }) => {
                 let (error, start) = (self.name(*error), self.name(*start));
-                format!(".machine size={size} error={error} start={start} p={p} t={t} limit={limit}\n")
+                format!(
+                    ".machine size={size} error={error} start={start} p={p} t={t} limit={limit}\n"
+                )
             }
-            Line::Gate(Gate { place, p, t }) => format!(".gate place={} p={p} t={t}\n", self.name(*place)),
+            Line::Gate(Gate { place, p, t }) => {
+                format!(".gate place={} p={p} t={t}\n", self.name(*place))
+            }
             Line::Register(Cell { number, label, value }) => {
                 format!(".register R{number} label={label} value={value}\n")
             }
@@ -91,7 +97,9 @@ impl Places {
 /// The directive that begins a block, if this word begins one.
 fn block(word: &Cell, before: Option<&Line>) -> String {
     match before {
-        Some(Line::Word(last)) if last.number + 1 == word.number && last.label == word.label => String::new(),
+        Some(Line::Word(last)) if last.number + 1 == word.number && last.label == word.label => {
+            String::new()
+        }
         _ => format!("\n.block at={} label={}\n", word.number, word.label),
     }
 }

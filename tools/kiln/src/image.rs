@@ -66,7 +66,9 @@ impl fmt::Display for Line {
                 write!(to, "M,{size},{error},{start},{p},{t},{limit}")
             }
             Line::Gate(Gate { place, p, t }) => write!(to, "G,{place},{p},{t}"),
-            Line::Register(Cell { number, label, value }) => write!(to, "R,{number},{label},{value}"),
+            Line::Register(Cell { number, label, value }) => {
+                write!(to, "R,{number},{label},{value}")
+            }
             Line::Word(Cell { number, label, value }) => write!(to, "W,{number},{label},{value}"),
         }
     }

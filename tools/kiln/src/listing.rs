@@ -18,7 +18,8 @@ pub fn listing(source: &str, assembled: &Assembled) -> String {
 /// A line of the source, beside the first line of the image that comes from it;
 /// the others follow.
 fn beside(number: usize, text: &str, assembled: &Assembled) -> String {
-    let mut origins = assembled.lines.iter().filter(|origin| origin.at.line == number).map(in_columns);
+    let mut origins =
+        assembled.lines.iter().filter(|origin| origin.at.line == number).map(in_columns);
     let first = row(&origins.next().unwrap_or_default(), text);
     first + &origins.map(|columns| row(&columns, "")).collect::<String>()
 }
@@ -28,7 +29,9 @@ fn row(columns: &str, source: &str) -> String {
 }
 
 fn in_columns(origin: &Origin) -> String {
-    let Line::Word(Cell { number, label, value }) = origin.line else { return origin.line.to_string() };
+    let Line::Word(Cell { number, label, value }) = origin.line else {
+        return origin.line.to_string();
+    };
     let [address, label, word] = [number.to_string(), label.to_string(), value.to_string()];
     match origin.op {
         Some(op) => columns([&address, &label, &word, &fields(value), op.ticks]),

@@ -221,10 +221,25 @@ mod tests {
         assert!(!is_exact(128_589_825) && !is_exact(369_098_753) && !is_exact(540));
     }
 
+    /// The man page has the table once more, for the reader.
+    #[test]
+    fn the_man_page_has_every_op() {
+        let page = include_str!("../man/kiln-source.5");
+        for op in &OPS {
+            let is_row = |line: &str| {
+                line.starts_with(&format!("{}  ", op.pattern()))
+                    && line.ends_with(&format!("  {}", op.ticks))
+            };
+            assert_eq!(page.lines().filter(|line| is_row(line)).count(), 1, "{}", op.name);
+        }
+    }
+
     #[test]
     fn numbers_and_names_are_of_one_op_each() {
         for (index, op) in OPS.iter().enumerate() {
-            assert!(OPS[..index].iter().all(|other| other.number < op.number && other.name != op.name));
+            assert!(OPS[..index]
+                .iter()
+                .all(|other| other.number < op.number && other.name != op.name));
         }
     }
 }

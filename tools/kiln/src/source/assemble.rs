@@ -77,14 +77,19 @@ impl<'a, 'b> Assembler<'a, 'b> {
     fn machine(&mut self) {
         let Some(Directive { at, givens }) = self.layout.machine else {
             let start = Position { line: 1, column: 1 };
-            return self.context.errors.push(Error::new(start, "there is no `.machine` in this source"));
+            return self
+                .context
+                .errors
+                .push(Error::new(start, "there is no `.machine` in this source"));
         };
         self.context.size = fields::size(givens, self.context.names);
         let values = self.context.fields(at, givens, &fields::MACHINE);
         if let [_, _, _, Some(p), Some(t), _] = values {
             self.check_pair(at, label(p), label(t));
         }
-        let [Some(size), Some(error), Some(start), Some(p), Some(t), Some(limit)] = values else { return };
+        let [Some(size), Some(error), Some(start), Some(p), Some(t), Some(limit)] = values else {
+            return;
+        };
         let machine = Machine { size, error, start, p: label(p), t: label(t), limit };
         self.lines.push(Origin { line: Line::Machine(machine), at, op: None });
     }
@@ -95,7 +100,9 @@ impl<'a, 'b> Assembler<'a, 'b> {
         let smallest = Line::Machine(Machine { size: 1, limit: 1, p, t, ..Machine::default() });
         let text = image::written([smallest].iter());
         if library::Machine::load(text.as_bytes()).is_err() {
-            let message = format!("the pair {p}, {t} isn't valid: p and t must be sound, and p must flow to t");
+            let message = format!(
+                "the pair {p}, {t} isn't valid: p and t must be sound, and p must flow to t"
+            );
             self.context.errors.push(Error::new(at, message));
         }
     }
@@ -130,7 +137,11 @@ impl<'a, 'b> Assembler<'a, 'b> {
             let message = format!("address {number} is outside: the size is {size}");
             return self.context.errors.push(Error::new(at, message));
         }
-        let cell = Cell { number, label: label(word.label.unwrap_or_default()), value: value.unwrap_or_default() };
+        let cell = Cell {
+            number,
+            label: label(word.label.unwrap_or_default()),
+            value: value.unwrap_or_default(),
+        };
         let taken = add(words, number, Origin { line: Line::Word(cell), at, op });
         let message = |line| format!("address {number} has a word already, from line {line}");
         self.context.errors.extend(taken.map(|line| Error::new(at, message(line))));
@@ -138,7 +149,8 @@ impl<'a, 'b> Assembler<'a, 'b> {
 
     /// The word of an op, none if an operand is wrong.
     fn encode(&mut self, op: &Op, operands: &[Operand]) -> Option<u32> {
-        let values: Vec<Option<u32>> = operands.iter().map(|operand| self.operand(operand)).collect();
+        let values: Vec<Option<u32>> =
+            operands.iter().map(|operand| self.operand(operand)).collect();
         values.into_iter().try_fold(op.bare(), |word, bits| Some(word + bits?))
     }
 
@@ -168,11 +180,17 @@ fn add(cells: &mut Cells, number: u32, origin: Origin) -> Option<usize> {
 /// What the library's loader says against the image, unless something is said
 /// against that line of the source already.
 fn refused(assembled: &Assembled, errors: &[Error]) -> Option<Error> {
-    let Some(Line::Machine(_)) = assembled.lines.first().map(|first| first.line) else { return None };
+    let Some(Line::Machine(_)) = assembled.lines.first().map(|first| first.line) else {
+        return None;
+    };
     let text = assembled.image();
     let refusal = library::Machine::load(text.as_bytes()).err()?;
     let at = assembled.lines[refusal.line.max(1) - 1].at;
     let is_known = errors.iter().any(|error| error.at.is_some_and(|known| known.line == at.line));
-    let message = format!("the loader refuses this: {}, {}", refusal.number, refusals::cause(text.as_bytes(), &refusal));
+    let message = format!(
+        "the loader refuses this: {}, {}",
+        refusal.number,
+        refusals::cause(text.as_bytes(), &refusal)
+    );
     (!is_known).then(|| Error::new(at, message))
 }

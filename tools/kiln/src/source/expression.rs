@@ -162,10 +162,14 @@ impl Member<'_> {
                 .owners
                 .bit(name.text)
                 .ok_or_else(|| Error::new(name.at, format!("unknown owner `{}`", name.text))),
-            Member::Bits(bits, at) => u8::try_from(*bits)
-                .ok()
-                .filter(|bits| *bits <= labels::ALL)
-                .ok_or_else(|| Error::new(*at, format!("{bits} is no set of owners: one is 0 to {}", labels::ALL))),
+            Member::Bits(bits, at) => {
+                u8::try_from(*bits).ok().filter(|bits| *bits <= labels::ALL).ok_or_else(|| {
+                    Error::new(
+                        *at,
+                        format!("{bits} is no set of owners: one is 0 to {}", labels::ALL),
+                    )
+                })
+            }
         }
     }
 }

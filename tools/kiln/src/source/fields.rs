@@ -60,8 +60,10 @@ pub const MACHINE: [Field; 6] = [
     needed("limit", range("the limit", 1, GREATEST_LIMIT)),
 ];
 pub const GATE: [Field; 3] = [needed("place", PLACE), needed("p", LABEL), needed("t", LABEL)];
-pub const REGISTER: [Field; 2] =
-    [optional("label", LABEL, labels::LOWEST as u32), optional("value", range("a value", 0, GREATEST_VALUE), 0)];
+pub const REGISTER: [Field; 2] = [
+    optional("label", LABEL, labels::LOWEST as u32),
+    optional("value", range("a value", 0, GREATEST_VALUE), 0),
+];
 
 /// The fields of a block that begins where the last one ended, or elsewhere.
 pub fn block(here: u32) -> [Field; 2] {
@@ -101,10 +103,13 @@ impl Context<'_, '_> {
             return Some(format!("{number} doesn't fit: {what} is {least} to {greatest}"));
         }
         if is_outside {
-            return (!range.is_place).then(|| format!("`!` is for places, and {} is none", range.what));
+            return (!range.is_place)
+                .then(|| format!("`!` is for places, and {} is none", range.what));
         }
         let size = self.size.filter(|size| range.is_place && number >= i64::from(*size))?;
-        Some(format!("place {number} is outside: the size is {size} (`!{number}` if that is meant)"))
+        Some(format!(
+            "place {number} is outside: the size is {size} (`!{number}` if that is meant)"
+        ))
     }
 
     /// The values of a directive's fields, in the table's order, none for each

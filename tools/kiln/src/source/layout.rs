@@ -92,19 +92,24 @@ impl<'a, 'b> Layout<'a, 'b> {
             self.begin_block(at, givens);
         }
         let here = self.here();
-        statement.names.iter().for_each(|name| self.define(name.text, here.map(i64::from), name.at));
+        statement
+            .names
+            .iter()
+            .for_each(|name| self.define(name.text, here.map(i64::from), name.at));
         match &statement.body {
             Body::Nothing | Body::Block(_) => {}
             Body::Op(op, operands) => self.add_word(at, Content::Op(op, operands)),
-            Body::Words(values) => {
-                values.iter().for_each(|value| self.add_word(value.expression.at, Content::Value(value)))
-            }
+            Body::Words(values) => values
+                .iter()
+                .for_each(|value| self.add_word(value.expression.at, Content::Value(value))),
             Body::BrokenWord => self.add_word(at, Content::Broken),
             Body::BrokenBlock => self.block = Block::Unknown,
             Body::Space(value) => self.skip(at, value),
             Body::Machine(givens) => self.add_machine(Directive { at, givens }),
             Body::Gate(givens) => self.gates.push(Directive { at, givens }),
-            Body::Register(number, givens) => self.registers.push((*number, Directive { at, givens })),
+            Body::Register(number, givens) => {
+                self.registers.push((*number, Directive { at, givens }))
+            }
             Body::Owners(givens) => givens.iter().for_each(|given| self.name_owner(given)),
             Body::Set(given) => self.set(given),
             Body::Parameter(given) => self.take_parameter(given),
@@ -163,11 +168,16 @@ impl<'a, 'b> Layout<'a, 'b> {
             (Block::At { next, label }, Some(count)) => {
                 *next += count;
                 if label.is_some_and(|label| label != labels::LOWEST.into()) {
-                    let message = format!("words left to `.space` have label {}, unlike this block", labels::LOWEST);
+                    let message = format!(
+                        "words left to `.space` have label {}, unlike this block",
+                        labels::LOWEST
+                    );
                     self.errors.push(Error::new(at, message));
                 }
             }
-            (Block::NotYet, _) => self.errors.push(Error::new(at, "`.space` before the first `.block`")),
+            (Block::NotYet, _) => {
+                self.errors.push(Error::new(at, "`.space` before the first `.block`"))
+            }
             _ => self.block = Block::Unknown,
         }
     }
@@ -176,7 +186,8 @@ impl<'a, 'b> Layout<'a, 'b> {
         match self.machine {
             None => self.machine = Some(directive),
             Some(first) => {
-                let message = format!("a second `.machine`; the first is in line {}", first.at.line);
+                let message =
+                    format!("a second `.machine`; the first is in line {}", first.at.line);
                 self.errors.push(Error::new(directive.at, message));
             }
         }
@@ -212,7 +223,8 @@ impl<'a, 'b> Layout<'a, 'b> {
     }
 
     fn check_definitions(&mut self) {
-        let unused = self.given.iter().filter(|definition| !self.taken.contains(definition.name.as_str()));
+        let unused =
+            self.given.iter().filter(|definition| !self.taken.contains(definition.name.as_str()));
         let error = |definition: &Definition| {
             Error::whole(format!("-D {}: the source has no such `.parameter`", definition.name))
         };

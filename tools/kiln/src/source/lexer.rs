@@ -57,8 +57,9 @@ pub fn tokens(text: &str, line: usize) -> Vec<Token<'_>> {
 /// The kind and the length in bytes of the token that a text begins with.
 fn measure(text: &str, first: char) -> (Kind, usize) {
     let behind = first.len_utf8();
-    let name_length =
-        |from: usize| text[from..].find(|letter| !continues_name(letter)).map_or(text.len(), |at| from + at);
+    let name_length = |from: usize| {
+        text[from..].find(|letter| !continues_name(letter)).map_or(text.len(), |at| from + at)
+    };
     if begins_name(first) {
         (Kind::Name, name_length(behind))
     } else if first.is_ascii_digit() {
@@ -79,7 +80,10 @@ mod tests {
         let tokens = tokens("été: .set x=0x1F, [R4] ; why", 7);
         let texts: Vec<&str> = tokens.iter().map(|token| token.text).collect();
         assert_eq!(texts, ["été", ":", ".set", "x", "=", "0x1F", ",", "[", "R4", "]", ""]);
-        assert_eq!(tokens[2], Token { kind: Kind::Directive, text: ".set", at: Position { line: 7, column: 6 } });
+        assert_eq!(
+            tokens[2],
+            Token { kind: Kind::Directive, text: ".set", at: Position { line: 7, column: 6 } }
+        );
         assert_eq!(tokens[10].at.column, 23);
     }
 }

@@ -39,9 +39,10 @@ impl<'a> Names<'a> {
     pub fn value(&self, name: &str, at: Position) -> Result<Option<i64>, Error> {
         match self.meanings.get(name) {
             Some(meaning) => Ok(meaning.value),
-            None if self.later.contains(name) => {
-                Err(Error::new(at, format!("`{name}` is defined further down; here it has no value yet")))
-            }
+            None if self.later.contains(name) => Err(Error::new(
+                at,
+                format!("`{name}` is defined further down; here it has no value yet"),
+            )),
             None => Err(Error::new(at, format!("unknown name `{name}`"))),
         }
     }

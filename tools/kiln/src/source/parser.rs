@@ -165,7 +165,10 @@ impl<'a> Parser<'a> {
             let name = self.advance();
             self.advance();
             if is_register(name.text) {
-                self.errors.push(Error::new(name.at, format!("`{}` is a register and can't be a name", name.text)));
+                self.errors.push(Error::new(
+                    name.at,
+                    format!("`{}` is a register and can't be a name", name.text),
+                ));
             } else {
                 names.push(name);
             }
@@ -190,10 +193,15 @@ impl<'a> Parser<'a> {
         let Some(op) = Op::named(name.text) else {
             return Err(Error::new(name.at, format!("unknown op `{}`", name.text)));
         };
-        let operands: Parsed<Vec<Operand>> =
-            op.pieces().map(|piece| Ok(Operand { piece, argument: self.argument(piece)? })).collect();
+        let operands: Parsed<Vec<Operand>> = op
+            .pieces()
+            .map(|piece| Ok(Operand { piece, argument: self.argument(piece)? }))
+            .collect();
         let operands = operands.and_then(|operands| self.end().map(|()| operands));
-        let hint = |error: Error| Error { message: format!("{}; write `{}`", error.message, op.pattern()), ..error };
+        let hint = |error: Error| Error {
+            message: format!("{}; write `{}`", error.message, op.pattern()),
+            ..error
+        };
         Ok(Body::Op(op, operands.map_err(hint)?))
     }
 
@@ -267,6 +275,7 @@ impl<'a> Parser<'a> {
 
 /// Whether a name is that of a register, one that doesn't exist included.
 pub fn is_register(name: &str) -> bool {
-    name.strip_prefix(REGISTER)
-        .is_some_and(|digits| !digits.is_empty() && digits.bytes().all(|digit| digit.is_ascii_digit()))
+    name.strip_prefix(REGISTER).is_some_and(|digits| {
+        !digits.is_empty() && digits.bytes().all(|digit| digit.is_ascii_digit())
+    })
 }
