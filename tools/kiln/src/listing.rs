@@ -3,6 +3,7 @@
 use crate::image::{Cell, Line};
 use crate::ops;
 use crate::source::{Assembled, Origin};
+use std::collections::BTreeMap;
 
 /// Where the source begins, and with it how wide the columns before it are.
 const WIDTH: usize = 46;
@@ -10,18 +11,21 @@ const WIDTH: usize = 46;
 /// The listing: address, label, word, op with its fields, and ticks before each
 /// line of the source; before a line that is no word, the image's line.
 pub fn listing(source: &str, assembled: &Assembled) -> String {
+    let mut made: BTreeMap<usize, Vec<String>> = BTreeMap::new();
+    for origin in &assembled.lines {
+        made.entry(origin.at.line).or_default().push(in_columns(origin));
+    }
     let head = row(&columns(["address", "label", "word", "op a b n", "ticks"]), "source");
-    let lines = source.lines().enumerate().map(|(index, text)| beside(index + 1, text, assembled));
-    head + &lines.collect::<String>()
+    let beside = |(index, text)| beside(text, made.get(&(index + 1)).map_or(&[], Vec::as_slice));
+    head + &source.lines().enumerate().map(beside).collect::<String>()
 }
 
 /// A line of the source, beside the first line of the image that comes from it;
 /// the others follow.
-fn beside(number: usize, text: &str, assembled: &Assembled) -> String {
-    let mut origins =
-        assembled.lines.iter().filter(|origin| origin.at.line == number).map(in_columns);
-    let first = row(&origins.next().unwrap_or_default(), text);
-    first + &origins.map(|columns| row(&columns, "")).collect::<String>()
+fn beside(text: &str, made: &[String]) -> String {
+    let mut made = made.iter();
+    let first = row(made.next().map_or("", String::as_str), text);
+    first + &made.map(|columns| row(columns, "")).collect::<String>()
 }
 
 fn row(columns: &str, source: &str) -> String {

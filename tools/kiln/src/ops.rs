@@ -182,10 +182,6 @@ pub fn target(word: u32) -> Option<u32> {
     op.pieces().find(|piece| *piece == Piece::Place).map(|piece| piece.decode(word))
 }
 
-pub fn is_branch(word: u32) -> bool {
-    target(word).is_some()
-}
-
 /// Whether a word is its op's own: no bit is set that the op doesn't use.
 pub fn is_exact(word: u32) -> bool {
     let used = |op: &Op| op.pieces().map(|piece| piece.encode(piece.decode(word))).sum::<u32>();

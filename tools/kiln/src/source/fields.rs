@@ -65,9 +65,17 @@ pub const REGISTER: [Field; 2] = [
     optional("value", range("a value", 0, GREATEST_VALUE), 0),
 ];
 
-/// The fields of a block that begins where the last one ended, or elsewhere.
+/// Where a block begins.
+const AT: &str = "at";
+
+/// The fields of a block, which begins here unless it says where.
 pub fn block(here: u32) -> [Field; 2] {
-    [optional("at", range("an address", 0, GREATEST_SIZE - 1), here), needed("label", LABEL)]
+    [optional(AT, range("an address", 0, GREATEST_SIZE - 1), here), needed("label", LABEL)]
+}
+
+/// Whether a block says where it begins.
+pub fn says_where(block: &[Given]) -> bool {
+    block.iter().any(|given| given.name.text == AT)
 }
 
 /// The size among a machine's fields, if it is right; what is wrong with it is

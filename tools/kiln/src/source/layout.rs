@@ -2,8 +2,9 @@
 //! label. What a word holds is not asked yet.
 
 use super::fields::{self, Context};
+use super::lexer::Token;
 use super::names::Names;
-use super::parser::{Body, Given, Operand, Statement, Value};
+use super::parser::{Body, Given, Meaning, Operand, Statement, Value};
 use super::{Definition, Error, Position};
 use crate::labels::{self, NoOwner};
 use crate::ops::Op;
@@ -21,6 +22,8 @@ pub struct Layout<'a, 'b> {
     /// The definitions that a parameter has taken.
     taken: HashSet<&'a str>,
     block: Block,
+    /// The names behind the last word.
+    names_behind: Vec<Token<'a>>,
 }
 
 /// The fields of a directive, and where it stands.
@@ -70,6 +73,7 @@ pub fn layout<'a, 'b>(statements: &'b [Statement<'a>], given: &'b [Definition]) 
         given,
         taken: HashSet::new(),
         block: Block::NotYet,
+        names_behind: Vec::new(),
     };
     statements.iter().for_each(|statement| layout.add(statement));
     layout.check_definitions();
@@ -79,8 +83,8 @@ pub fn layout<'a, 'b>(statements: &'b [Statement<'a>], given: &'b [Definition]) 
 /// The names that a line defines.
 fn defined<'a>(statement: &Statement<'a>) -> Vec<&'a str> {
     let mut names: Vec<&str> = statement.names.iter().map(|name| name.text).collect();
-    if let Body::Set(given) | Body::Parameter(given) = &statement.body {
-        names.push(given.name.text);
+    if let Body::Set(meaning) | Body::Parameter(meaning) = &statement.body {
+        names.push(meaning.name.text);
     }
     names
 }
@@ -91,11 +95,7 @@ impl<'a, 'b> Layout<'a, 'b> {
         if let Body::Block(givens) = &statement.body {
             self.begin_block(at, givens);
         }
-        let here = self.here();
-        statement
-            .names
-            .iter()
-            .for_each(|name| self.define(name.text, here.map(i64::from), name.at));
+        statement.names.iter().for_each(|name| self.define_place(*name));
         match &statement.body {
             Body::Nothing | Body::Block(_) => {}
             Body::Op(op, operands) => self.add_word(at, Content::Op(op, operands)),
@@ -110,9 +110,9 @@ impl<'a, 'b> Layout<'a, 'b> {
             Body::Register(number, givens) => {
                 self.registers.push((*number, Directive { at, givens }))
             }
-            Body::Owners(givens) => givens.iter().for_each(|given| self.name_owner(given)),
-            Body::Set(given) => self.set(given),
-            Body::Parameter(given) => self.take_parameter(given),
+            Body::Owners(owners) => owners.iter().for_each(|owner| self.name_owner(owner)),
+            Body::Set(meaning) => self.set(meaning),
+            Body::Parameter(meaning) => self.take_parameter(meaning),
         }
     }
 
@@ -132,11 +132,31 @@ impl<'a, 'b> Layout<'a, 'b> {
         let here = self.here();
         let table = fields::block(here.unwrap_or(0));
         let [next, label] = self.context().fields(at, givens, &table);
-        let is_known = here.is_some() || givens.iter().any(|given| given.name.text == "at");
-        self.block = match next.filter(|_| is_known) {
+        let next = next.filter(|_| here.is_some() || fields::says_where(givens));
+        if here.zip(next).is_some_and(|(here, next)| here != next) {
+            self.refuse_names_behind();
+        }
+        self.names_behind.clear();
+        self.block = match next {
             Some(next) => Block::At { next, label },
             None => Block::Unknown,
         };
+    }
+
+    /// A name before a block that begins elsewhere was meant for the block's
+    /// first word, and would be the address behind the last one's.
+    fn refuse_names_behind(&mut self) {
+        let error = |name: &Token| {
+            let message = format!("`{}` stands before a `.block` that begins elsewhere", name.text);
+            Error::new(name.at, message)
+        };
+        self.errors.extend(self.names_behind.iter().map(error));
+    }
+
+    /// A name of the next word's address.
+    fn define_place(&mut self, name: Token<'a>) {
+        self.define(name.text, self.here().map(i64::from), name.at);
+        self.names_behind.push(name);
     }
 
     fn define(&mut self, name: &'a str, value: Option<i64>, at: Position) {
@@ -149,6 +169,7 @@ impl<'a, 'b> Layout<'a, 'b> {
             self.errors.push(Error::new(at, "a word before the first `.block` has no label"));
             self.block = Block::Unknown;
         }
+        self.names_behind.clear();
         let address = self.here();
         let label = match &mut self.block {
             Block::At { next, label } => {
@@ -163,11 +184,12 @@ impl<'a, 'b> Layout<'a, 'b> {
     /// Words without a line: of value 0 and the lowest label, so only a block
     /// of this label has them.
     fn skip(&mut self, at: Position, value: &Value) {
+        self.names_behind.clear();
         let count = self.context().value(value, &fields::SPACE);
         match (&mut self.block, count) {
             (Block::At { next, label }, Some(count)) => {
                 *next += count;
-                if label.is_some_and(|label| label != labels::LOWEST.into()) {
+                if count > 0 && label.is_some_and(|label| label != labels::LOWEST.into()) {
                     let message = format!(
                         "words left to `.space` have label {}, unlike this block",
                         labels::LOWEST
@@ -193,32 +215,32 @@ impl<'a, 'b> Layout<'a, 'b> {
         }
     }
 
-    fn name_owner(&mut self, given: &Given) {
-        let Some(bit) = given.value.expression.value(&self.names, &mut self.errors) else { return };
-        let name = given.name.text;
+    fn name_owner(&mut self, owner: &Meaning) {
+        let Some(bit) = owner.value.value(&self.names, &mut self.errors) else { return };
+        let name = owner.name.text;
         let named = self.names.owners.name(name, bit);
         let message = named.err().map(|why| match why {
             NoOwner::NotOneBit => format!("{bit} is no owner: one is 1, 2, 4 or 8"),
             NoOwner::NameTaken => format!("owner `{name}` is named twice"),
             NoOwner::BitTaken(other) => format!("{bit} is the owner `{other}` already"),
         });
-        self.errors.extend(message.map(|message| Error::new(given.name.at, message)));
+        self.errors.extend(message.map(|message| Error::new(owner.name.at, message)));
     }
 
-    fn set(&mut self, given: &Given<'a>) {
-        let value = given.value.expression.value(&self.names, &mut self.errors);
-        self.define(given.name.text, value, given.name.at);
+    fn set(&mut self, meaning: &Meaning<'a>) {
+        let value = meaning.value.value(&self.names, &mut self.errors);
+        self.define(meaning.name.text, value, meaning.name.at);
     }
 
     /// A parameter has the value of the command line, or its own.
-    fn take_parameter(&mut self, given: &Given<'a>) {
-        let name = given.name.text;
+    fn take_parameter(&mut self, meaning: &Meaning<'a>) {
+        let name = meaning.name.text;
         match self.given.iter().rev().find(|definition| definition.name == name) {
             Some(definition) => {
                 self.taken.insert(name);
-                self.define(name, Some(definition.value), given.name.at);
+                self.define(name, Some(definition.value), meaning.name.at);
             }
-            None => self.set(given),
+            None => self.set(meaning),
         }
     }
 

@@ -32,9 +32,9 @@ pub enum Body<'a> {
     Machine(Vec<Given<'a>>),
     Gate(Vec<Given<'a>>),
     Register(Option<u32>, Vec<Given<'a>>),
-    Owners(Vec<Given<'a>>),
-    Set(Given<'a>),
-    Parameter(Given<'a>),
+    Owners(Vec<Meaning<'a>>),
+    Set(Meaning<'a>),
+    Parameter(Meaning<'a>),
     /// A line that can't be read, and that would be a word.
     BrokenWord,
     /// A line that can't be read, and that would say where words go.
@@ -64,6 +64,12 @@ pub struct Value<'a> {
 pub struct Given<'a> {
     pub name: Token<'a>,
     pub value: Value<'a>,
+}
+
+/// A name and what it is to stand for: `top = 620`.
+pub struct Meaning<'a> {
+    pub name: Token<'a>,
+    pub value: Expression<'a>,
 }
 
 /// Reads a line. What is wrong goes to the errors.
@@ -237,13 +243,13 @@ impl<'a> Parser<'a> {
         Ok(match directive.text {
             ".word" => Body::Words(self.values()?),
             ".space" => Body::Space(self.value()?),
-            ".block" => Body::Block(self.givens()?),
-            ".machine" => Body::Machine(self.givens()?),
-            ".gate" => Body::Gate(self.givens()?),
-            ".register" => Body::Register(self.register()?, self.givens()?),
-            ".owners" => Body::Owners(self.givens()?),
-            ".set" => Body::Set(self.given()?),
-            ".parameter" => Body::Parameter(self.given()?),
+            ".block" => Body::Block(self.until_end(Parser::given)?),
+            ".machine" => Body::Machine(self.until_end(Parser::given)?),
+            ".gate" => Body::Gate(self.until_end(Parser::given)?),
+            ".register" => Body::Register(self.register()?, self.until_end(Parser::given)?),
+            ".owners" => Body::Owners(self.until_end(Parser::meaning)?),
+            ".set" => Body::Set(self.meaning()?),
+            ".parameter" => Body::Parameter(self.meaning()?),
             text => return Err(Error::new(directive.at, format!("unknown directive `{text}`"))),
         })
     }
@@ -257,19 +263,27 @@ impl<'a> Parser<'a> {
         Ok(values)
     }
 
-    fn given(&mut self) -> Parsed<Given<'a>> {
+    fn name_and_equals(&mut self) -> Parsed<Token<'a>> {
         let name = self.name("a name")?;
         self.expect(EQUALS)?;
-        Ok(Given { name, value: self.value()? })
+        Ok(name)
     }
 
-    /// Fields by name, to the end of the line.
-    fn givens(&mut self) -> Parsed<Vec<Given<'a>>> {
-        let mut givens = Vec::new();
+    fn given(&mut self) -> Parsed<Given<'a>> {
+        Ok(Given { name: self.name_and_equals()?, value: self.value()? })
+    }
+
+    fn meaning(&mut self) -> Parsed<Meaning<'a>> {
+        Ok(Meaning { name: self.name_and_equals()?, value: self.expression()? })
+    }
+
+    /// One after another, to the end of the line.
+    fn until_end<T>(&mut self, one: fn(&mut Self) -> Parsed<T>) -> Parsed<Vec<T>> {
+        let mut all = Vec::new();
         while self.peek().kind != Kind::End {
-            givens.push(self.given()?);
+            all.push(one(self)?);
         }
-        Ok(givens)
+        Ok(all)
     }
 }
 
