@@ -120,3 +120,42 @@ fn targets(line: &Line) -> Vec<u32> {
         Line::Word(word) => ops::target(word.value).into_iter().collect(),
     }
 }
+
+#[cfg(test)]
+mod tests {
+    use super::*;
+    use crate::source::assemble;
+
+    /// The image of a source that dis writes, as asm writes it.
+    fn back(text: &str) -> String {
+        let source = source(&image::parse(text).expect("an image"));
+        assemble(&source, &[]).ok().expect("a right source").image()
+    }
+
+    /// The bits behind an op: none, all, each alone, and some others.
+    fn operands() -> Vec<u32> {
+        let others =
+            [0, 0xFF_FFFF, 0x12_3456, 0xAB_C000, 0x45_6700, 0x98_0000, 0x70_0005, 0x08_07FF];
+        (0..24).map(|bit| 1 << bit).chain(others).collect()
+    }
+
+    #[test]
+    fn every_word_of_every_op_comes_back() {
+        for operand in operands() {
+            let word = |op: u32| format!("W,{op},{},{}\n", op % 7, op << 24 | operand);
+            let words: String = (0..=255).map(word).collect();
+            let text = format!("M,256,255,0,240,240,9\n{words}");
+            assert_eq!(back(&text), text);
+        }
+    }
+
+    #[test]
+    fn places_outside_and_lines_of_default_value_come_back() {
+        for text in [
+            "M,1,1,4294967295,240,240,1\nG,2048,0,15\nG,0,255,1\nR,0,240,0\nR,15,0,4294967295\n",
+            "M,2048,7,8,240,240,16777216\nW,7,240,0\nW,9,240,184549385\nW,2047,15,184614911\n",
+        ] {
+            assert_eq!(back(text), text);
+        }
+    }
+}
