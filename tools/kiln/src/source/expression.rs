@@ -106,9 +106,13 @@ impl<'a> Expression<'a> {
     /// got no value.
     pub fn value(&self, names: &Names, errors: &mut Vec<Error>) -> Option<i64> {
         let values: Vec<Option<i64>> =
-            self.summands.iter().map(|summand| summand.value(names, errors)).collect();
+            self.summands.iter().map(|summand| summand.term.value(names, errors)).collect();
         let values: Vec<i64> = values.into_iter().collect::<Option<_>>()?;
-        let sum = values.into_iter().try_fold(0, i64::checked_add);
+        let sum = self
+            .summands
+            .iter()
+            .zip(values)
+            .try_fold(0, |sum, (summand, value)| summand.add_to(sum, value));
         if sum.is_none() {
             errors.push(Error::new(self.at, "the sum is too large"));
         }
@@ -117,9 +121,12 @@ impl<'a> Expression<'a> {
 }
 
 impl Summand<'_> {
-    fn value(&self, names: &Names, errors: &mut Vec<Error>) -> Option<i64> {
-        let value = self.term.value(names, errors)?;
-        Some(if self.is_subtracted { -value } else { value })
+    /// A sum with the summand's value, none if it is too large.
+    fn add_to(&self, sum: i64, value: i64) -> Option<i64> {
+        match self.is_subtracted {
+            true => sum.checked_sub(value),
+            false => sum.checked_add(value),
+        }
     }
 }
 

@@ -13,7 +13,10 @@ const COMMA: &str = ",";
 /// Before a place that is outside the memory on purpose.
 const OUTSIDE: &str = "!";
 const REGISTER: char = 'R';
-pub const REGISTERS: u32 = 16;
+const REGISTERS: u32 = 16;
+const WORD: &str = ".word";
+const SPACE: &str = ".space";
+const BLOCK: &str = ".block";
 
 /// One line.
 pub struct Statement<'a> {
@@ -90,8 +93,8 @@ pub fn statement<'a>(text: &'a str, line: usize, errors: &mut Vec<Error>) -> Sta
 /// lines behind it are where they would be.
 fn broken<'a>(first: &Token) -> Body<'a> {
     match (first.kind, first.text) {
-        (Kind::Name, _) | (_, ".word") => Body::BrokenWord,
-        (_, ".block" | ".space") => Body::BrokenBlock,
+        (Kind::Name, _) | (_, WORD) => Body::BrokenWord,
+        (_, BLOCK | SPACE) => Body::BrokenBlock,
         _ => Body::Nothing,
     }
 }
@@ -241,9 +244,9 @@ impl<'a> Parser<'a> {
     fn directive(&mut self) -> Parsed<Body<'a>> {
         let directive = self.advance();
         Ok(match directive.text {
-            ".word" => Body::Words(self.values()?),
-            ".space" => Body::Space(self.value()?),
-            ".block" => Body::Block(self.until_end(Parser::given)?),
+            WORD => Body::Words(self.values()?),
+            SPACE => Body::Space(self.value()?),
+            BLOCK => Body::Block(self.until_end(Parser::given)?),
             ".machine" => Body::Machine(self.until_end(Parser::given)?),
             ".gate" => Body::Gate(self.until_end(Parser::given)?),
             ".register" => Body::Register(self.register()?, self.until_end(Parser::given)?),
