@@ -53,6 +53,7 @@ extern "C" {
     fn jennydusk_step(record: *mut u64, record_length: usize, words: *mut u32, words_length: usize, labels: *mut u8, labels_length: usize) -> u64;
     fn jennydusk_run(record: *mut u64, record_length: usize, words: *mut u32, words_length: usize, labels: *mut u8, labels_length: usize) -> u64;
     fn jennydusk_print(record: *const u64, record_length: usize, words: *const u32, words_length: usize, labels: *const u8, labels_length: usize, output: *mut u8, output_length: usize) -> u64;
+    fn jennydusk_flows(from: u8, to: u8) -> bool;
 }
 
 /// Why a text is no image: the refusal's number and line.
@@ -261,7 +262,63 @@ fn call(fields: &[u64]) -> Call {
     Call { kind, return_pc: return_pc as u32, pair: pair(pc_label, timing_label), end_tick }
 }
 
-// Stand-in for the label calls: to be deleted once the library has them.
+/// Whether what has one label may go to where the other is.
 pub fn flows(from: u8, to: u8) -> bool {
-    (to >> 4) & !(from >> 4) == 0 && (from & 15) & !(to & 15) == 0
+    // The call takes and gives values alone.
+    unsafe { jennydusk_flows(from, to) }
+}
+
+#[cfg(test)]
+mod tests {
+    use super::*;
+
+    const HEADER: &str = include_str!("../../../include/jennydusk.h");
+
+    /// What the header gives as a name's value, without a comment.
+    fn defined(name: &str) -> &'static str {
+        let start = format!("#define JENNYDUSK_{name} ");
+        let value = HEADER.lines().find_map(|line| line.strip_prefix(&start));
+        let value = value.unwrap_or_else(|| panic!("the header has {name}"));
+        value.split("/*").next().unwrap_or(value).trim()
+    }
+
+    #[test]
+    fn the_layout_is_the_headers() {
+        let numbers = [
+            ("SPAN", place::SPAN),
+            ("SIZE", place::SIZE),
+            ("LIMIT", place::LIMIT),
+            ("ERROR_PC", place::ERROR_PC),
+            ("PC", place::PC),
+            ("PC_LABEL", place::PC_LABEL),
+            ("TIMING_LABEL", place::TIMING_LABEL),
+            ("CLOCK", place::CLOCK),
+            ("END", place::END),
+            ("WHY", place::WHY),
+        ];
+        for (name, place) in numbers {
+            assert_eq!(defined(name), place.to_string(), "{name}");
+        }
+        let call = format!("({} + {} * (k))", place::CALLS, place::CALL_SPAN);
+        assert_eq!(defined("CALL(k)"), call);
+        assert_eq!(defined("VALUE(k)"), format!("({} + (k))", place::VALUES));
+        assert_eq!(defined("LABEL(k)"), format!("({} + (k))", place::LABELS));
+    }
+
+    #[test]
+    fn the_numbers_are_the_headers() {
+        let numbers = [
+            ("RUNNING", RUNNING),
+            ("HALTED", HALTED),
+            ("CLOCK_SPENT", CLOCK_SPENT),
+            ("WHY_PC", WHY_PC),
+            ("WHY_LABEL", WHY_LABEL),
+            ("WHY_OP", WHY_OP),
+            ("UPCALL", UPCALL),
+            ("DONE", DONE),
+        ];
+        for (name, number) in numbers {
+            assert_eq!(defined(name), number.to_string(), "{name}");
+        }
+    }
 }
