@@ -129,7 +129,7 @@ mod tests {
     /// The image of a source that dis writes, as asm writes it.
     fn back(text: &str) -> String {
         let source = source(&image::parse(text).expect("an image"));
-        assemble(&source, &[]).ok().expect("a right source").image()
+        assemble(&source, &[]).expect("a right source").image()
     }
 
     /// The bits behind an op: none, all, each alone, and some others.

@@ -16,7 +16,7 @@ pub struct Op {
 }
 
 /// All ops. `lt` and `blt` compare without sign, as all numbers have none.
-pub const OPS: [Op; 22] = [
+pub const OPS: &[Op] = &[
     op(1, "set", "a, n", "1"),
     op(2, "add", "a, b, c", "1"),
     op(3, "sub", "a, b, c", "1"),
@@ -199,6 +199,32 @@ pub fn in_words(word: u32) -> String {
 #[cfg(test)]
 mod tests {
     use super::*;
+    use crate::library::{Machine, WHY_OP};
+
+    /// A machine that has done one step: this word, at its error place.
+    fn stepped(word: u32) -> Machine {
+        let text = format!("M,1,0,0,240,240,100\nW,0,240,{word}\n");
+        let mut machine = Machine::load(text.as_bytes()).expect("an image");
+        machine.step();
+        machine
+    }
+
+    #[test]
+    fn the_machine_knows_the_same_ops() {
+        for number in 0..=u8::MAX {
+            let word = u32::from(number) << OP_SHIFT;
+            assert_eq!(stepped(word).why() == WHY_OP, Op::of(word).is_none(), "{number}");
+        }
+    }
+
+    /// Op 8 takes its fewest ticks here, and op 19 its ticks outside an upcall.
+    #[test]
+    fn the_machine_takes_the_same_ticks() {
+        for op in OPS {
+            let fewest = op.ticks.split('-').next().and_then(|ticks| ticks.parse().ok());
+            assert_eq!(stepped(op.bare()).clock(), fewest.unwrap_or(1), "{}", op.name);
+        }
+    }
 
     #[test]
     fn operands_are_where_the_machine_reads_them() {
@@ -221,7 +247,7 @@ mod tests {
     #[test]
     fn the_man_page_has_every_op() {
         let page = include_str!("../man/kiln-source.5");
-        for op in &OPS {
+        for op in OPS {
             let is_row = |line: &str| {
                 line.starts_with(&format!("{}  ", op.pattern()))
                     && line.ends_with(&format!("  {}", op.ticks))
