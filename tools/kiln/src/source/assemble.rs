@@ -9,6 +9,7 @@ use crate::library;
 use crate::ops::{Op, Piece};
 use crate::refusals;
 use std::collections::BTreeMap;
+use std::ops::Range;
 
 /// An image's line, and where in the source it comes from.
 pub struct Origin {
@@ -48,15 +49,17 @@ struct Assembler<'a, 'b> {
     layout: &'b Layout<'a, 'b>,
     context: Context<'a, 'b>,
     lines: Vec<Origin>,
+    /// The addresses that have a word or a space, with the source's line.
+    taken: BTreeMap<u32, usize>,
 }
 
-/// A part of the image by number or address, each of which can be there once.
+/// Registers by number or words by address.
 type Cells = BTreeMap<u32, Origin>;
 
 impl<'a, 'b> Assembler<'a, 'b> {
     fn new(layout: &'b Layout<'a, 'b>, errors: &'b mut Vec<Error>) -> Assembler<'a, 'b> {
         let context = Context { names: &layout.names, size: None, errors };
-        Assembler { layout, context, lines: Vec::new() }
+        Assembler { layout, context, lines: Vec::new(), taken: BTreeMap::new() }
     }
 
     fn assemble(mut self) -> Assembled {
@@ -120,9 +123,11 @@ impl<'a, 'b> Assembler<'a, 'b> {
         let values = self.context.fields(at, givens, &fields::REGISTER);
         let (Some(number), [Some(of), Some(value)]) = (*number, values) else { return };
         let line = Line::Register(Cell { number, label: label(of), value });
-        let taken = add(registers, number, Origin { line, at, op: None });
-        let message = |line| format!("R{number} has a `.register` already, in line {line}");
-        self.context.errors.extend(taken.map(|line| Error::new(at, message(line))));
+        if let Some(first) = registers.get(&number) {
+            let message = format!("R{number} is given already, in line {}", first.at.line);
+            return self.context.errors.push(Error::new(at, message));
+        }
+        registers.insert(number, Origin { line, at, op: None });
     }
 
     fn word(&mut self, word: &Word, words: &mut Cells) {
@@ -130,21 +135,41 @@ impl<'a, 'b> Assembler<'a, 'b> {
         let (value, op) = match word.content {
             Content::Op(op, operands) => (self.encode(op, operands), Some(op)),
             Content::Value(value) => (self.context.value(value, &fields::WORD), None),
-            Content::Broken => (None, None),
+            Content::Space(_) | Content::Broken => (None, None),
         };
         let Some(number) = word.address else { return };
-        if let Some(size) = self.context.size.filter(|size| number >= *size) {
-            let message = format!("address {number} is outside: the size is {size}");
-            return self.context.errors.push(Error::new(at, message));
+        let is_free = self.take(at, number..number + word.content.count());
+        if is_free && !matches!(word.content, Content::Space(_)) {
+            let label = label(word.label.unwrap_or_default());
+            let line = Line::Word(Cell { number, label, value: value.unwrap_or_default() });
+            words.insert(number, Origin { line, at, op });
         }
-        let cell = Cell {
-            number,
-            label: label(word.label.unwrap_or_default()),
-            value: value.unwrap_or_default(),
+    }
+
+    /// Takes addresses for a word or a space, if they are there and free.
+    fn take(&mut self, at: Position, addresses: Range<u32>) -> bool {
+        if self.context.size.is_none() && addresses.end > fields::GREATEST_SIZE {
+            // Outside any memory; that the size is wrong is told already.
+            return false;
+        }
+        let outside = self.context.size.filter(|size| addresses.end > *size);
+        let taken = self.taken.range(addresses.clone()).next();
+        let wrong = match (outside, taken) {
+            _ if addresses.is_empty() => None,
+            (Some(size), _) => {
+                Some(format!("address {} is outside: the size is {size}", addresses.end - 1))
+            }
+            (None, Some((address, line))) => {
+                Some(format!("address {address} is taken already, in line {line}"))
+            }
+            (None, None) => None,
         };
-        let taken = add(words, number, Origin { line: Line::Word(cell), at, op });
-        let message = |line| format!("address {number} has a word already, from line {line}");
-        self.context.errors.extend(taken.map(|line| Error::new(at, message(line))));
+        let is_right = wrong.is_none();
+        self.context.errors.extend(wrong.map(|message| Error::new(at, message)));
+        if is_right {
+            self.taken.extend(addresses.map(|address| (address, at.line)));
+        }
+        is_right
     }
 
     /// The word of an op, none if an operand is wrong.
@@ -168,13 +193,6 @@ impl<'a, 'b> Assembler<'a, 'b> {
 /// A number that the table of fields has let pass as a label.
 fn label(number: u32) -> u8 {
     u8::try_from(number).expect("a label is at most 255")
-}
-
-/// Adds a part where there is none yet, else tells the line of that one.
-fn add(cells: &mut Cells, number: u32, origin: Origin) -> Option<usize> {
-    let first = cells.get(&number).map(|first| first.at.line);
-    cells.entry(number).or_insert(origin);
-    first
 }
 
 /// What the library's loader says against the image, unless something is said

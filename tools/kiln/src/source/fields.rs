@@ -26,13 +26,13 @@ const fn place(greatest: i64) -> Range {
 }
 
 const GREATEST_VALUE: i64 = u32::MAX as i64;
-const GREATEST_SIZE: i64 = 2_048;
+pub const GREATEST_SIZE: u32 = 2_048;
 const GREATEST_LIMIT: i64 = 16_777_216;
 
 pub const N: Range = range("n", 0, ops::GREATEST_N as i64);
 pub const TARGET: Range = place(ops::GREATEST_N as i64);
 pub const WORD: Range = range("a word", 0, GREATEST_VALUE);
-pub const SPACE: Range = range("a number of words", 0, GREATEST_SIZE);
+pub const SPACE: Range = range("a number of words", 0, GREATEST_SIZE as i64);
 const PLACE: Range = place(GREATEST_VALUE);
 const LABEL: Range = range("a label", 0, labels::GREATEST as i64);
 
@@ -52,7 +52,7 @@ const fn optional(name: &'static str, range: Range, default: u32) -> Field {
 }
 
 pub const MACHINE: [Field; 6] = [
-    needed("size", range("the size", 1, GREATEST_SIZE)),
+    needed("size", range("the size", 1, GREATEST_SIZE as i64)),
     needed("error", PLACE),
     needed("start", PLACE),
     needed("p", LABEL),
@@ -70,7 +70,7 @@ const AT: &str = "at";
 
 /// The fields of a block, which begins here unless it says where.
 pub fn block(here: u32) -> [Field; 2] {
-    [optional(AT, range("an address", 0, GREATEST_SIZE - 1), here), needed("label", LABEL)]
+    [optional(AT, range("an address", 0, GREATEST_SIZE as i64 - 1), here), needed("label", LABEL)]
 }
 
 /// Whether a block says where it begins.

@@ -33,8 +33,8 @@ pub struct Directive<'a, 'b> {
     pub givens: &'b [Given<'a>],
 }
 
-/// A word: where it stands in the source and in memory, if that is known, its
-/// label and what it holds.
+/// A word, or words without a line: where it stands in the source and in
+/// memory, if that is known, its label and what it holds.
 pub struct Word<'a, 'b> {
     pub at: Position,
     pub address: Option<u32>,
@@ -46,8 +46,20 @@ pub struct Word<'a, 'b> {
 pub enum Content<'a, 'b> {
     Op(&'static Op, &'b [Operand<'a>]),
     Value(&'b Value<'a>),
+    /// So many words without a line.
+    Space(u32),
     /// It can't be read, which is an error already.
     Broken,
+}
+
+impl Content<'_, '_> {
+    /// How many addresses it takes.
+    pub fn count(&self) -> u32 {
+        match self {
+            Content::Space(count) => *count,
+            _ => 1,
+        }
+    }
 }
 
 /// The block that words go to.
@@ -173,7 +185,7 @@ impl<'a, 'b> Layout<'a, 'b> {
         let address = self.here();
         let label = match &mut self.block {
             Block::At { next, label } => {
-                *next += 1;
+                *next += content.count();
                 *label
             }
             _ => None,
@@ -184,23 +196,16 @@ impl<'a, 'b> Layout<'a, 'b> {
     /// Words without a line: of value 0 and the lowest label, so only a block
     /// of this label has them.
     fn skip(&mut self, at: Position, value: &Value) {
-        self.names_behind.clear();
-        let count = self.context().value(value, &fields::SPACE);
-        match (&mut self.block, count) {
-            (Block::At { next, label }, Some(count)) => {
-                *next += count;
-                if count > 0 && label.is_some_and(|label| label != labels::LOWEST.into()) {
-                    let message = format!(
-                        "words left to `.space` have label {}, unlike this block",
-                        labels::LOWEST
-                    );
-                    self.errors.push(Error::new(at, message));
-                }
-            }
-            (Block::NotYet, _) => {
-                self.errors.push(Error::new(at, "`.space` before the first `.block`"))
-            }
-            _ => self.block = Block::Unknown,
+        let Some(count) = self.context().value(value, &fields::SPACE) else {
+            self.block = Block::Unknown;
+            return;
+        };
+        self.add_word(at, Content::Space(count));
+        let label = self.words.last().and_then(|word| word.label);
+        if count > 0 && label.is_some_and(|label| label != labels::LOWEST.into()) {
+            let message =
+                format!("words left to `.space` have label {}, unlike this block", labels::LOWEST);
+            self.errors.push(Error::new(at, message));
         }
     }
 
