@@ -4,7 +4,6 @@
 use std::fmt;
 
 /// The M line.
-
 #[derive(Clone, Copy, Debug, Default, PartialEq, Eq)]
 pub struct Machine {
     pub size: u32,
