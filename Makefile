@@ -21,6 +21,8 @@ prefix := $(abspath $(PREFIX))
 root := $(DESTDIR)$(prefix)
 
 .PHONY: all test install
+# rt builds one thing at a time.
+.NOTPARALLEL:
 all: $(firing_program) $(kiln_program) $(archive)
 
 # What is up to date already keeps its time when it is checked again, so it gets a new one.

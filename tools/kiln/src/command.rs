@@ -21,6 +21,9 @@ pub struct Arguments {
     pub label: Option<String>,
 }
 
+/// An option, and the value that hangs on it.
+type Given<'a> = (&'static str, Option<&'a str>);
+
 /// A command: its name, the options that it takes, and what it does.
 pub struct Command {
     pub name: &'static str,
@@ -37,6 +40,9 @@ const LABEL: &str = "--as";
 /// Behind it every argument is a file's name.
 const NO_MORE_OPTIONS: &str = "--";
 
+pub const HELP: &str = "--help";
+pub const SHORT_HELP: &str = "-h";
+
 pub const COMMANDS: [Command; 4] = [
     Command {
         name: "asm",
@@ -46,7 +52,7 @@ pub const COMMANDS: [Command; 4] = [
 Makes the image of a source. Errors say FILE:LINE:COLUMN, all of them.
   -o IMAGE       write the image there; without it and without -l, to standard output
   -l             print address, label, word, op and ticks beside the source
-  -D NAME=VALUE  give a name of the source this value
+  -D NAME=VALUE  give a parameter of the source this value
 kiln-source(5) tells the language.
 ",
         act: asm,
@@ -91,6 +97,12 @@ impl Command {
         COMMANDS.iter().find(|command| command.name == name)
     }
 
+    /// Whether help is asked for behind the command's name.
+    pub fn is_asked_for_help(given: &[String]) -> bool {
+        let mut options = given.iter().take_while(|argument| *argument != NO_MORE_OPTIONS);
+        options.any(|argument| argument == HELP || argument == SHORT_HELP)
+    }
+
     /// Reads what stands behind the command's name.
     pub fn read(&self, given: &[String]) -> Result<Arguments, String> {
         let mut arguments = Arguments::default();
@@ -114,10 +126,7 @@ impl Command {
 
     /// The option that an argument is, with the value that hangs on it, as in
     /// `-oFILE` and `--as=34`; none if it is no option.
-    fn option<'a>(
-        &self,
-        argument: &'a str,
-    ) -> Result<Option<(&'static str, Option<&'a str>)>, String> {
+    fn option<'a>(&self, argument: &'a str) -> Result<Option<Given<'a>>, String> {
         if !argument.starts_with('-') || argument == "-" || argument == NO_MORE_OPTIONS {
             return Ok(None);
         }

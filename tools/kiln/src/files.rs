@@ -123,10 +123,9 @@ fn fill(mut file: File, bytes: &[u8], permissions: Option<fs::Permissions>) -> i
 }
 
 fn create_beside(path: &Path) -> io::Result<(PathBuf, File)> {
-    let name = path.file_name().ok_or(io::Error::other("it names no file"))?.to_string_lossy();
     let mut last = io::Error::other("no name for a temporary file is free");
     for number in 0..NAMES {
-        let temporary = path.with_file_name(format!(".{name}.{}-{number}", process::id()));
+        let temporary = path.with_file_name(format!(".kiln-{}-{number}", process::id()));
         match OpenOptions::new().write(true).create_new(true).open(&temporary) {
             Ok(file) => return Ok((temporary, file)),
             Err(error) if error.kind() != io::ErrorKind::AlreadyExists => return Err(error),

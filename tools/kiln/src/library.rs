@@ -42,7 +42,6 @@ mod place {
 /// An answer is a number, with a line or a length above it.
 const NUMBERS: u64 = 256;
 const DONE: u64 = 0;
-const SHORT_OUTPUT: u64 = 8;
 /// Longer than any listing, which has some 46,000 bytes at most.
 const LISTING: usize = 65_536;
 
@@ -87,7 +86,7 @@ pub struct Cell {
 }
 
 /// A machine: its record, and memory as long as a machine can need.
-#[derive(Debug, PartialEq, Eq)]
+#[derive(Debug)]
 pub struct Machine {
     record: [u64; place::SPAN],
     words: Vec<u32>,
@@ -134,7 +133,7 @@ impl Machine {
         let Machine { record, words, labels } = self;
         let mut output = vec![0; LISTING];
         let answer = unsafe { jennydusk_print(record.as_ptr(), record.len(), words.as_ptr(), words.len(), labels.as_ptr(), labels.len(), output.as_mut_ptr(), output.len()) };
-        assert_eq!(answer % NUMBERS, DONE, "a listing is shorter than its output ({SHORT_OUTPUT} says that it isn't)");
+        assert_eq!(answer % NUMBERS, DONE, "the output is longer than any listing");
         output.truncate((answer / NUMBERS) as usize);
         output
     }

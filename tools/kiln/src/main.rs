@@ -19,15 +19,13 @@ mod standard;
 mod status;
 mod trace;
 
-use command::{Command, COMMANDS};
+use command::{Command, COMMANDS, HELP, SHORT_HELP};
 use status::{Failure, Status};
 use std::env;
 use std::io::{self, Write};
 use std::process::ExitCode;
 
 const VERSION: &str = include_str!("../../../VERSION");
-const HELP: &str = "--help";
-const SHORT_HELP: &str = "-h";
 
 fn main() -> ExitCode {
     let status = arguments().and_then(|given| dispatch(&given)).unwrap_or_else(|failure| {
@@ -60,7 +58,7 @@ fn dispatch(given: &[String]) -> Result<Status, Failure> {
 }
 
 fn act(command: &Command, given: &[String]) -> Result<Status, Failure> {
-    if given.iter().any(|argument| argument == HELP || argument == SHORT_HELP) {
+    if Command::is_asked_for_help(given) {
         return say(&format!("usage: {}\n{}", command.usage, command.help));
     }
     let arguments = command.read(given).map_err(|error| {
