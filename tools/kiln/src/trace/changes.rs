@@ -6,21 +6,17 @@ use crate::library::{
     Call, Cell, Machine, Pair, CLOCK_SPENT, HALTED, REGISTERS, RUNNING, UPCALL, WHY_LABEL, WHY_PC,
 };
 use crate::ops::{self, Fields};
+use std::ops::Range;
 
 const CHECK_FAILS: &str = "! no effect: the check fails";
 
 /// Every change but that of the clock, and of the pc by 1.
 pub fn between(before: &Machine, after: &Machine, sight: &Sight) -> Vec<String> {
-    let mut changes = Vec::new();
-    for number in 0..REGISTERS {
-        let cells = (before.register(number), after.register(number));
-        changes.extend(cell(&format!("R{number}"), cells, sight));
-    }
-    if !before.same_memory(after) {
-        let cells = |address| (before.word(address), after.word(address));
-        let words = 0..after.size();
-        changes.extend(words.flat_map(|at| cell(&format!("word {at}"), cells(at), sight)));
-    }
+    let registers = |number| (before.register(number), after.register(number));
+    let words = |address| (before.word(address), after.word(address));
+    let addresses = if before.same_memory(after) { 0..0 } else { 0..after.size() };
+    let mut changes = cells("R", 0..REGISTERS, registers, sight);
+    changes.extend(cells("word ", addresses, words, sight));
     match (sight.control(before), sight.control(after)) {
         (true, true) => changes.extend(control_changes(before, after)),
         (true, false) => changes.push(HIDDEN.to_string()),
@@ -30,10 +26,18 @@ pub fn between(before: &Machine, after: &Machine, sight: &Sight) -> Vec<String> 
     changes
 }
 
+/// The changes of locations of a kind, each given by its number as it was and is.
+fn cells(
+    kind: &str,
+    numbers: Range<usize>,
+    at: impl Fn(usize) -> (Cell, Cell),
+    sight: &Sight,
+) -> Vec<String> {
+    let changed = numbers.filter(|number| at(*number).0 != at(*number).1);
+    changed.flat_map(|number| cell(&format!("{kind}{number}"), at(number), sight)).collect()
+}
+
 fn cell(name: &str, (before, after): (Cell, Cell), sight: &Sight) -> Vec<String> {
-    if before == after {
-        return Vec::new();
-    }
     match (sight.cell(before), sight.cell(after)) {
         (Some(before), Some(after)) => {
             let label = format!("label of {name} := {}", after.label);

@@ -4,11 +4,12 @@
 use super::changes;
 use super::lines::{self, HIDDEN, NONE};
 use super::sight::Sight;
+use crate::labels::LOWEST;
 use crate::library::{Cell, Machine, REGISTERS, RUNNING};
 use std::io::{self, Write};
 
 /// What a location has that no line of an image names.
-const UNSET: Cell = Cell { label: 240, value: 0 };
+const UNSET: Cell = Cell { label: LOWEST, value: 0 };
 
 /// Tells the state at each tick by how it differs from the one before. The state
 /// at a tick is that after the last step finishing there: a stall and the step
@@ -40,11 +41,13 @@ struct Watch {
 
 impl Watch {
     fn tell(&mut self, state: &Machine, output: &mut impl Write) -> io::Result<()> {
-        match self.told.take() {
-            None => self.tell_start(state, output)?,
-            Some(before) => self.tell_changes(&before, state, output)?,
-        }
-        self.told = Some(state.clone());
+        let Some(mut before) = self.told.take() else {
+            self.told = Some(state.clone());
+            return self.tell_start(state, output);
+        };
+        self.tell_changes(&before, state, output)?;
+        before.clone_from(state);
+        self.told = Some(before);
         Ok(())
     }
 
