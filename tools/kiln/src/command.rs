@@ -52,7 +52,7 @@ pub const COMMANDS: [Command; 4] = [
 Makes the image of a source. Errors say FILE:LINE:COLUMN, all of them.
   -o IMAGE       write the image there; without it and without -l, to standard output
   -l             print address, label, word, op and ticks beside the source
-  -D NAME=VALUE  give a parameter of the source this value
+  -D NAME=VALUE  give a .parameter of the source this value
 kiln-source(5) tells the language.
 ",
         act: asm,
