@@ -53,7 +53,6 @@ extern "C" {
     fn jennydusk_run(record: *mut u64, record_length: usize, words: *mut u32, words_length: usize, labels: *mut u8, labels_length: usize) -> u64;
     fn jennydusk_print(record: *const u64, record_length: usize, words: *const u32, words_length: usize, labels: *const u8, labels_length: usize, output: *mut u8, output_length: usize) -> u64;
     fn jennydusk_flows(from: u8, to: u8) -> bool;
-    fn jennydusk_is_valid_pair(pc: u8, timing: u8) -> bool;
 }
 
 /// Why a text is no image: the refusal's number and line.
@@ -266,12 +265,6 @@ fn call(fields: &[u64]) -> Call {
 pub fn flows(from: u8, to: u8) -> bool {
     // The call takes and gives values alone.
     unsafe { jennydusk_flows(from, to) }
-}
-
-/// Whether a pc label and a timing label make a valid pair.
-pub fn is_valid_pair(pc: u8, timing: u8) -> bool {
-    // As above.
-    unsafe { jennydusk_is_valid_pair(pc, timing) }
 }
 
 #[cfg(test)]
