@@ -10,6 +10,8 @@
 #include <stddef.h>
 #include <stdint.h>
 
+#define JENNYDUSK_VERSION "1.0.0"
+
 #ifdef __cplusplus
 extern "C" {
 #endif

@@ -1,0 +1,323 @@
+//! The library's C functions, as `include/jennydusk.h` declares them, and safe
+//! calls over them. What an image means is asked here and nowhere else.
+
+#![allow(unsafe_code)]
+
+/// As many words as a machine can have: memory of this length is never short.
+pub const WORDS: usize = 2048;
+pub const REGISTERS: usize = 16;
+/// An image has at most so many bytes.
+pub const TEXT: usize = 65_535;
+
+/// The ends of a run, and why it stalled.
+pub const RUNNING: u64 = 0;
+pub const HALTED: u64 = 1;
+pub const CLOCK_SPENT: u64 = 2;
+pub const WHY_PC: u64 = 1;
+pub const WHY_LABEL: u64 = 2;
+pub const WHY_OP: u64 = 3;
+
+/// The kind of a call that is an upcall.
+pub const UPCALL: u64 = 2;
+
+/// The record's layout: the place of each field in its buffer.
+mod place {
+    pub const SPAN: usize = 76;
+    pub const SIZE: usize = 0;
+    pub const LIMIT: usize = 1;
+    pub const ERROR_PC: usize = 2;
+    pub const PC: usize = 28;
+    pub const PC_LABEL: usize = 29;
+    pub const TIMING_LABEL: usize = 30;
+    pub const CLOCK: usize = 31;
+    pub const CALLS: usize = 32;
+    pub const CALL_SPAN: usize = 5;
+    pub const CALL_COUNT: usize = 2;
+    pub const END: usize = 42;
+    pub const WHY: usize = 43;
+    pub const VALUES: usize = 44;
+    pub const LABELS: usize = 60;
+}
+
+/// An answer is a number, with a line or a length above it.
+const NUMBERS: u64 = 256;
+const DONE: u64 = 0;
+/// Longer than any listing, which has some 46,000 bytes at most.
+const LISTING: usize = 65_536;
+
+#[rustfmt::skip]
+#[link(name = "jennydusk", kind = "static")]
+extern "C" {
+    fn jennydusk_load(text: *const u8, text_length: usize, words: *mut u32, words_length: usize, labels: *mut u8, labels_length: usize, record: *mut u64, record_length: usize) -> u64;
+    fn jennydusk_step(record: *mut u64, record_length: usize, words: *mut u32, words_length: usize, labels: *mut u8, labels_length: usize) -> u64;
+    fn jennydusk_run(record: *mut u64, record_length: usize, words: *mut u32, words_length: usize, labels: *mut u8, labels_length: usize) -> u64;
+    fn jennydusk_print(record: *const u64, record_length: usize, words: *const u32, words_length: usize, labels: *const u8, labels_length: usize, output: *mut u8, output_length: usize) -> u64;
+    fn jennydusk_flows(from: u8, to: u8) -> bool;
+}
+
+/// Why a text is no image: the refusal's number and line.
+#[derive(Clone, Copy, Debug, PartialEq, Eq)]
+pub struct Refusal {
+    pub number: u8,
+    pub line: usize,
+}
+
+/// A pc label and a timing label.
+#[derive(Clone, Copy, Debug, PartialEq, Eq)]
+pub struct Pair {
+    pub pc_label: u8,
+    pub timing_label: u8,
+}
+
+/// An open call; the end tick is an upcall's.
+#[derive(Clone, Copy, Debug, PartialEq, Eq)]
+pub struct Call {
+    pub kind: u64,
+    pub return_pc: u32,
+    pub pair: Pair,
+    pub end_tick: u64,
+}
+
+/// A register or a word.
+#[derive(Clone, Copy, Debug, PartialEq, Eq)]
+pub struct Cell {
+    pub label: u8,
+    pub value: u32,
+}
+
+/// A machine: its record, and memory as long as a machine can need.
+#[derive(Debug)]
+pub struct Machine {
+    record: [u64; place::SPAN],
+    words: Vec<u32>,
+    labels: Vec<u8>,
+}
+
+/// Copying one machine over another takes no new memory.
+impl Clone for Machine {
+    fn clone(&self) -> Machine {
+        Machine { record: self.record, words: self.words.clone(), labels: self.labels.clone() }
+    }
+
+    fn clone_from(&mut self, other: &Machine) {
+        self.record = other.record;
+        self.words.clone_from(&other.words);
+        self.labels.clone_from(&other.labels);
+    }
+}
+
+/// The calls. Every pointer is that of a slice of the length beside it, and
+/// slices that may be changed overlap no other.
+#[rustfmt::skip]
+impl Machine {
+    pub fn load(text: &[u8]) -> Result<Machine, Refusal> {
+        let mut machine = Machine { record: [0; place::SPAN], words: vec![0; WORDS], labels: vec![0; WORDS] };
+        let Machine { record, words, labels } = &mut machine;
+        let answer = unsafe { jennydusk_load(text.as_ptr(), text.len(), words.as_mut_ptr(), words.len(), labels.as_mut_ptr(), labels.len(), record.as_mut_ptr(), record.len()) };
+        if answer == DONE { Ok(machine) } else { Err(Refusal { number: (answer % NUMBERS) as u8, line: (answer / NUMBERS) as usize }) }
+    }
+
+    pub fn step(&mut self) {
+        let Machine { record, words, labels } = self;
+        let answer = unsafe { jennydusk_step(record.as_mut_ptr(), record.len(), words.as_mut_ptr(), words.len(), labels.as_mut_ptr(), labels.len()) };
+        assert_eq!(answer, DONE, "a loaded record in whole memory is stepped");
+    }
+
+    pub fn run(&mut self) {
+        let Machine { record, words, labels } = self;
+        let answer = unsafe { jennydusk_run(record.as_mut_ptr(), record.len(), words.as_mut_ptr(), words.len(), labels.as_mut_ptr(), labels.len()) };
+        assert_eq!(answer, DONE, "a loaded record in whole memory is run");
+    }
+
+    pub fn listing(&self) -> Vec<u8> {
+        let Machine { record, words, labels } = self;
+        let mut output = vec![0; LISTING];
+        let answer = unsafe { jennydusk_print(record.as_ptr(), record.len(), words.as_ptr(), words.len(), labels.as_ptr(), labels.len(), output.as_mut_ptr(), output.len()) };
+        assert_eq!(answer % NUMBERS, DONE, "the output is longer than any listing");
+        output.truncate((answer / NUMBERS) as usize);
+        output
+    }
+}
+
+/// What the record and the memory hold.
+impl Machine {
+    pub fn size(&self) -> usize {
+        self.record[place::SIZE] as usize
+    }
+
+    pub fn limit(&self) -> u64 {
+        self.record[place::LIMIT]
+    }
+
+    pub fn pc(&self) -> u32 {
+        self.record[place::PC] as u32
+    }
+
+    pub fn pair(&self) -> Pair {
+        pair(self.record[place::PC_LABEL], self.record[place::TIMING_LABEL])
+    }
+
+    pub fn clock(&self) -> u64 {
+        self.record[place::CLOCK]
+    }
+
+    pub fn end(&self) -> u64 {
+        self.record[place::END]
+    }
+
+    pub fn why(&self) -> u64 {
+        self.record[place::WHY]
+    }
+
+    /// The open calls, the older first.
+    pub fn calls(&self) -> Vec<Call> {
+        let fields = self.record[place::CALLS..].chunks(place::CALL_SPAN).take(place::CALL_COUNT);
+        fields.filter(|call| call[0] != 0).map(call).collect()
+    }
+
+    pub fn register(&self, number: usize) -> Cell {
+        let label = self.record[place::LABELS + number] as u8;
+        Cell { label, value: self.record[place::VALUES + number] as u32 }
+    }
+
+    /// A word below the size.
+    pub fn word(&self, address: usize) -> Cell {
+        Cell { label: self.labels[address], value: self.words[address] }
+    }
+
+    /// Whether two machines have the same memory.
+    pub fn same_memory(&self, other: &Machine) -> bool {
+        self.words == other.words && self.labels == other.labels
+    }
+}
+
+/// Questions that a step on a copy answers.
+impl Machine {
+    /// Why the next fetch fails, or 0. At the error pc, outside a call, a failed
+    /// fetch stalls, and a stall says why.
+    pub fn why_fetch_fails(&self) -> u64 {
+        let mut copy = self.alone();
+        copy.record[place::ERROR_PC] = copy.record[place::PC];
+        copy.step();
+        copy.why()
+    }
+
+    /// Whether the next op is a branch, a jump or the end of an upcall that fails
+    /// its check here: in an upcall each of these closes it.
+    pub fn fails_in_an_upcall(&self) -> bool {
+        let mut copy = self.alone();
+        let Pair { pc_label, timing_label } = self.pair();
+        let call = [UPCALL, 0, pc_label.into(), timing_label.into(), LONG_ENOUGH];
+        copy.record[place::CALLS..][..place::CALL_SPAN].copy_from_slice(&call);
+        copy.step();
+        copy.calls().is_empty()
+    }
+
+    /// Whether the next op would give register a or a word another value, were
+    /// their labels the highest, to which all labels flow.
+    pub fn is_stopped_by_a_label(&self, register: usize) -> bool {
+        let mut copy = self.clone();
+        let pc = self.pc() as usize;
+        copy.record[place::LABELS + register] = HIGHEST.into();
+        copy.labels[..self.size()].fill(HIGHEST);
+        copy.labels[pc] = self.labels[pc];
+        copy.step();
+        copy.register(register).value != self.register(register).value || copy.words != self.words
+    }
+
+    /// Whether the next op writes register a or a word, were the value of one
+    /// register another: it then changes nothing for the value alone.
+    pub fn writes_with_another(&self, register: usize, a: usize) -> bool {
+        let mut copy = self.clone();
+        copy.record[place::VALUES + register] ^= 1;
+        let before = copy.register(a).value;
+        copy.step();
+        copy.register(a).value != before || copy.words != self.words
+    }
+
+    /// The same state at tick 0 without open calls, and with all the time there is.
+    fn alone(&self) -> Machine {
+        let mut copy = self.clone();
+        copy.record[place::CALLS..place::END].fill(0);
+        copy.record[place::CLOCK] = 0;
+        copy.record[place::LIMIT] = LONGEST_LIMIT;
+        copy
+    }
+}
+
+/// The greatest limit, and ticks that are more than any op's.
+const LONGEST_LIMIT: u64 = 16_777_216;
+const LONG_ENOUGH: u64 = 100;
+const HIGHEST: u8 = 15;
+
+fn pair(pc_label: u64, timing_label: u64) -> Pair {
+    Pair { pc_label: pc_label as u8, timing_label: timing_label as u8 }
+}
+
+fn call(fields: &[u64]) -> Call {
+    let [kind, return_pc, pc_label, timing_label, end_tick] = *fields else {
+        unreachable!("a call has five words")
+    };
+    Call { kind, return_pc: return_pc as u32, pair: pair(pc_label, timing_label), end_tick }
+}
+
+/// Whether what has one label may go to where the other is.
+pub fn flows(from: u8, to: u8) -> bool {
+    // The call takes and gives values alone.
+    unsafe { jennydusk_flows(from, to) }
+}
+
+#[cfg(test)]
+mod tests {
+    use super::*;
+
+    const HEADER: &str = include_str!("../../../include/jennydusk.h");
+
+    /// What the header gives as a name's value, without a comment.
+    fn defined(name: &str) -> &'static str {
+        let start = format!("#define JENNYDUSK_{name} ");
+        let value = HEADER.lines().find_map(|line| line.strip_prefix(&start));
+        let value = value.unwrap_or_else(|| panic!("the header has {name}"));
+        value.split("/*").next().unwrap_or(value).trim()
+    }
+
+    #[test]
+    fn the_layout_is_the_headers() {
+        let numbers = [
+            ("SPAN", place::SPAN),
+            ("SIZE", place::SIZE),
+            ("LIMIT", place::LIMIT),
+            ("ERROR_PC", place::ERROR_PC),
+            ("PC", place::PC),
+            ("PC_LABEL", place::PC_LABEL),
+            ("TIMING_LABEL", place::TIMING_LABEL),
+            ("CLOCK", place::CLOCK),
+            ("END", place::END),
+            ("WHY", place::WHY),
+        ];
+        for (name, place) in numbers {
+            assert_eq!(defined(name), place.to_string(), "{name}");
+        }
+        let call = format!("({} + {} * (k))", place::CALLS, place::CALL_SPAN);
+        assert_eq!(defined("CALL(k)"), call);
+        assert_eq!(defined("VALUE(k)"), format!("({} + (k))", place::VALUES));
+        assert_eq!(defined("LABEL(k)"), format!("({} + (k))", place::LABELS));
+    }
+
+    #[test]
+    fn the_numbers_are_the_headers() {
+        let numbers = [
+            ("RUNNING", RUNNING),
+            ("HALTED", HALTED),
+            ("CLOCK_SPENT", CLOCK_SPENT),
+            ("WHY_PC", WHY_PC),
+            ("WHY_LABEL", WHY_LABEL),
+            ("WHY_OP", WHY_OP),
+            ("UPCALL", UPCALL),
+            ("DONE", DONE),
+        ];
+        for (name, number) in numbers {
+            assert_eq!(defined(name), number.to_string(), "{name}");
+        }
+    }
+}

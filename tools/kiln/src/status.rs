@@ -1,0 +1,32 @@
+//! How a command ends: its exit status, and what it says when it fails.
+
+/// The exit statuses, as kiln(1) lists them.
+#[derive(Clone, Copy, Debug, PartialEq, Eq)]
+pub enum Status {
+    /// Done; of a run, halted.
+    Done = 0,
+    /// The run's clock was spent, or it stalled.
+    Unfinished = 1,
+    /// The image, the source or the command line is refused.
+    Refused = 2,
+    /// Input or output failed.
+    Failed = 3,
+}
+
+/// A command that came to no end of its own. The message goes to standard error
+/// as it stands; it may have several lines.
+#[derive(Debug)]
+pub struct Failure {
+    pub status: Status,
+    pub message: String,
+}
+
+impl Failure {
+    pub fn refused(message: impl Into<String>) -> Failure {
+        Failure { status: Status::Refused, message: message.into() }
+    }
+
+    pub fn failed(message: impl Into<String>) -> Failure {
+        Failure { status: Status::Failed, message: message.into() }
+    }
+}
