@@ -17,6 +17,7 @@ archive := target/staticlib/libjennydusk.a
 pages1 := $(wildcard tools/kiln/man/*.1)
 pages5 := $(wildcard tools/kiln/man/*.5)
 images := $(wildcard examples/*.kiln examples/*.txt examples/NOTES.md)
+c_examples := $(wildcard examples/c/*.c)
 prefix := $(abspath $(PREFIX))
 root := $(DESTDIR)$(prefix)
 
@@ -53,5 +54,6 @@ install: all
 	$(INSTALL) -m 644 $(pages1) '$(root)/share/man/man1'
 	$(INSTALL) -m 644 $(pages5) '$(root)/share/man/man5'
 	$(INSTALL) -m 644 $(images) '$(root)/share/jennydusk/examples'
-	$(INSTALL) -m 644 examples/c/main.c '$(root)/share/jennydusk/examples/c'
+	$(INSTALL) -m 755 examples/run '$(root)/share/jennydusk/examples'
+	$(INSTALL) -m 644 $(c_examples) '$(root)/share/jennydusk/examples/c'
 	$(INSTALL) -m 644 examples/rust/main.rs '$(root)/share/jennydusk/examples/rust'
