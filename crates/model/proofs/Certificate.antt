@@ -1,0 +1,3 @@
+-- The theorems of specs/Certificate.antt.
+-- Assumes nothing.
+pub mod Release
