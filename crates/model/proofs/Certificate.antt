@@ -1,3 +1,4 @@
 -- The theorems of specs/Certificate.antt.
 -- Assumes nothing.
 pub mod Release
+pub mod Watch
