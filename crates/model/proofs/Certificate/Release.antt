@@ -149,7 +149,7 @@ module _ (s : State) where
 -- ---- no label is lowered but by an attempt
 
 -- What flows to a label within is within.
-within-on : (ℓ : ℕ) {l m : ℕ} → l ⊑ m → within ℓ m ≡ true → within ℓ l ≡ true
+pub within-on : (ℓ : ℕ) {l m : ℕ} → l ⊑ m → within ℓ m ≡ true → within ℓ l ≡ true
 unfolding within
 within-on ℓ h e = flows-trans h (record { holds = e }) .holds
 
@@ -256,7 +256,7 @@ module _ (ℓ : ℕ) (s : State) where
   large-change k (stops n) g o i = clash refl (sym g)
 
   -- A decision that is one.
-  large : {d : Decision} → Legal s d → callsGate d ≡ true → within ℓ (s .control .pair .pc) ≡ false
+  pub large : {d : Decision} → Legal s d → callsGate d ≡ true → within ℓ (s .control .pair .pc) ≡ false
       → within ℓ (controlAfter s d .pair .pc) ≡ true → atLarge ℓ s ≡ true
   unfolding controlAfter
   large (rests r) g o i = clash refl (sym g)

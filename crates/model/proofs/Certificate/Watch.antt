@@ -34,7 +34,7 @@ break-cause ℓ s =
     (λ _. ((λ e. omega arith), refl)) (λ _. ((λ e. omega arith), refl))
 
 -- So has every break's.
-breaks-cause : {ℓ : ℕ} {s : State} {c : Certificate} → Breaks ℓ s c → c .cause ≡ 0 → ⊥
+pub breaks-cause : {ℓ : ℕ} {s : State} {c : Certificate} → Breaks ℓ s c → c .cause ≡ 0 → ⊥
 breaks-cause (attempted a) e = omega arith
 breaks-cause {ℓ} (broken {s = s} a b) e = break-cause ℓ (step s) .0 e
 breaks-cause (later a b more) e = breaks-cause more e
@@ -42,7 +42,7 @@ breaks-cause (later a b more) e = breaks-cause more e
 -- ---- an ended record breaks nothing any more
 
 -- It attempts nothing.
-ended-quiet : (ℓ : ℕ) (s : State) → running s ≡ false → attempts ℓ s ≡ false
+pub ended-quiet : (ℓ : ℕ) (s : State) → running s ≡ false → attempts ℓ s ≡ false
 unfolding attempts decide
 ended-quiet ℓ s e = rw e
 
@@ -150,7 +150,7 @@ unfolding breaks
 certified-unbroken ℓ k n s h l = rw (h .gate n l, h .timing n l)
 
 -- The state after n steps is certified where the one before is.
-certified-step : (ℓ k : ℕ) (s : State) → Certified ℓ k s → Certified ℓ k (step s)
+pub certified-step : (ℓ k : ℕ) (s : State) → Certified ℓ k s → Certified ℓ k (step s)
 unfolding steps
 certified-step ℓ k s h =
     record { release = λ n. h .release (suc n); gate = λ n. h .gate (suc n); timing = λ n. h .timing (suc n) }
