@@ -12,7 +12,7 @@ use Rattle.model.specs.declared.Fixed.{Fixed}
 use Rattle.model.specs.Record.{Bank, State, inUpcall}
 use Rattle.model.specs.Word.{Op, immediate, arithmetic, load as loadWord, store, branch, jump, readClock, setLabel, setPair, upcall, endUpcall, gateCall, gateReturn, halt, raise, relabel}
 use Rattle.model.specs.Ops.{isLabel, noGate, p, La, Lb, Rb}
-use Rattle.model.specs.Step.{Fetched, failed, fetched, fetch, Decision, rest, spend, stall, close, carry, decide, step, steps}
+use Rattle.model.specs.Step.{Fetched, failed, fetched, fetch, isDone, decide, step, steps}
 use Rattle.model.specs.Load.{load}
 use Rattle.model.specs.Program.{stateOfLoad}
 use Rattle.model.specs.Seen.{within, LowEquivalent}
@@ -50,14 +50,6 @@ triesRelease ℓ s w =
 abbrev pub releases : ℕ → State → Fetched → Bool
 releases ℓ s (failed why) = false
 releases ℓ s (fetched w op) = isRelabelling op && triesRelease ℓ s w
-
--- The op is carried out or passes by: neither the end tick nor the limit bars it.
-abbrev pub isDone : Decision → Bool
-isDone rest = false
-isDone spend = false
-isDone (stall why) = false
-isDone (close cause) = false
-isDone (carry ticks change) = true
 
 -- A step from this state attempts a release to within ℓ.
 unfoldable pub attempts : ℕ → State → Bool

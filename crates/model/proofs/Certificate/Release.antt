@@ -18,10 +18,10 @@ use Rattle.model.specs.declared.Call.the-variants.{Empty, Gate, Upcall}
 use Rattle.model.specs.Record.{State, Location, register, word, labelAt, isEmpty, isUpcall, newest, inUpcall}
 use Rattle.model.specs.Word.{Rule, raise, relabel, Op, immediate, arithmetic, load, store, branch, jump, readClock, setLabel, setPair, upcall, endUpcall, gateCall, gateReturn, halt, aField}
 use Rattle.model.specs.Ops.{Write, nothing, value, label, Change, write, goto, enter, openUpcall, openGate, closeGate, stop, Effect, does, ends, Row, isLabel, allows, noGate, La, Lb, Rb, table}
-use Rattle.model.specs.Step.{Fetched, failed, fetched, fetch, Decision, rest, spend, stall, close, carry, fault, passed, attempt, inTime, plan, beyondLimit, inLimit, running, decide, causeAllowed, causeWrite, changeWrite, writeOf, written, controlAfter, changed, step}
+use Rattle.model.specs.Step.{Fetched, failed, fetched, fetch, Decision, rest, spend, stall, close, carry, fault, passed, attempt, inTime, plan, beyondLimit, inLimit, running, decide, isDone, causeAllowed, causeWrite, changeWrite, writeOf, written, controlAfter, changed, step}
 use Rattle.model.specs.Seen.{within, exists}
 use Rattle.model.specs.Noninterference.{downgrades, callsGate, gateCallsIn, timedFromOutside, StepProvisos}
-use Rattle.model.specs.Certificate.{isRelabelling, triesRelease, releases, isDone, attempts, leadsWithin, atLarge, breaks}
+use Rattle.model.specs.Certificate.{isRelabelling, triesRelease, releases, attempts, leadsWithin, atLarge, breaks}
 use Rattle.model.proofs.Truth.{either, clash, and-three, or-iff}
 use Rattle.model.proofs.Writes.{same, label-after-label, label-after-value}
 use Rattle.model.proofs.Legal.{_⊑_, LegalWrite, keeps, sets, marks, LegalChange, writes, goes, enters, calls, gates, returns, stops, Legal, rests, spends, stalls, closes, carries, legal}

@@ -20,10 +20,10 @@ use Rattle.model.specs.declared.Call.{Call}
 use Rattle.model.specs.Record.{State, Location, register, valueAt, labelAt, pairOf, newest, inUpcall}
 use Rattle.model.specs.Word.{Op, aField, bField}
 use Rattle.model.specs.Ops.{Change, write, goto, enter, openUpcall, openGate, closeGate, stop, noGate, isLabel, La, Lb, Rb}
-use Rattle.model.specs.Step.{Fetched, failed, fetched, fetch, Decision, rest, spend, stall, close, carry, endTick, running, decide, withControl, changed, controlAfter, restored, step}
+use Rattle.model.specs.Step.{Fetched, failed, fetched, fetch, Decision, rest, spend, stall, close, carry, endTick, running, decide, isDone, withControl, changed, controlAfter, restored, step}
 use Rattle.model.specs.Seen.{within, seenControl}
 use Rattle.model.specs.Noninterference.{callsGate, timedFromOutside, StepProvisos, SameSetting}
-use Rattle.model.specs.Certificate.{isRelabelling, triesRelease, releases, isDone, attempts, leadsWithin, atLarge, Certificate, releaseFrom, breaks, breakAt}
+use Rattle.model.specs.Certificate.{isRelabelling, triesRelease, releases, attempts, leadsWithin, atLarge, Certificate, releaseFrom, breaks, breakAt}
 use Rattle.model.proofs.Truth.{either, clash, and-iff, not-iff, same-outcome}
 use Rattle.model.proofs.Legal.{_⊑_, LegalChange, writes, goes, enters, calls, gates, returns, stops, Legal, rests, spends, stalls, closes, carries, legal}
 use Rattle.model.proofs.WellFormed.{Fit, top-upcall, step-fixed, step-control}
