@@ -3,6 +3,7 @@
 pub mod Numbers
 pub mod Turns
 pub mod Loop
+pub mod Skimming
 pub mod Verdicts
 pub mod Applied
 pub mod Driving

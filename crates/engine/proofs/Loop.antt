@@ -16,6 +16,7 @@ use Rattle.engine.specs.declared.steps.common.Stop.{Stop}
 use Rattle.engine.specs.declared.steps.common.Stop.the-variants.{Out, Late, Outside, Unreadable, Failed, Rest}
 use Rattle.engine.specs.declared.steps.common.Turn.{Turn}
 use Rattle.engine.specs.declared.steps.common.Pause.{Pause}
+use Rattle.engine.specs.Skim.{isCommon, skim}
 use Rattle.engine.specs.Common.{view, Timed, Stopped, Turned}
 use Rattle.engine.specs.Sprint.{Paused, Sprinted}
 
@@ -24,6 +25,12 @@ pub steps-one : (n : ℕ) (s : State) → 0 < n → steps n s ≡ steps (n - 1) 
 unfolding steps
 steps-one zero s h = absurd (omega arith)
 steps-one (suc n) s h = let e : n ≡ suc n - 1 = omega arith in ap (λ (m : ℕ). steps m (step s)) e
+
+-- One step of a common op, and the rest of them.
+skim-one : (n : ℕ) (s : State) → 0 < n → isCommon s ≡ true → skim n s ≡ skim (n - 1) (step s)
+unfolding skim
+skim-one zero s h c = absurd (omega arith)
+skim-one (suc n) s h c = let e : n ≡ suc n - 1 = omega arith in rw c (ap (λ (m : ℕ). skim m (step s)) e)
 
 -- A reason to stop, with a step left, is why the loop paused.
 pub pauses : (stop : Stop) (n : ℕ) (s : State) → 0 < n → Stopped stop s → Paused stop n s
@@ -75,8 +82,8 @@ witness-timed true deadline size p t pc clock values labels words marks =
 pub record Ran (size p t : ℕ) (up : Bool) (deadline : ℕ) (labels marks : List ℕ) (pc₀ clock₀ left₀ : ℕ) (values₀ words₀ : List ℕ) (pc clock left : ℕ) (values words : List ℕ) : Type 0 where
   pub run :
       (s : State) → Timed (view s size p t pc₀ clock₀ values₀ labels words₀ marks) up deadline
-      → steps left₀ (view s size p t pc₀ clock₀ values₀ labels words₀ marks)
-      ≡ steps left (view s size p t pc clock values labels words marks)
+      → skim left₀ (view s size p t pc₀ clock₀ values₀ labels words₀ marks)
+      ≡ skim left (view s size p t pc clock values labels words marks)
   pub bounded : (m : ℕ) → clock₀ ≤ m → deadline ≤ m → clock ≤ m
   pub fewer : left ≤ left₀
   pub long : length words ≡ length words₀
@@ -115,8 +122,8 @@ module _ {size p t : ℕ} {up : Bool} {deadline : ℕ} {labels marks : List ℕ}
           record {
             run =
                 λ s x.
-                r .run s x ∙ steps-one left _ more
-                ∙ ap (steps (left - 1)) (h s (still s pc₀ clock₀ values₀ words₀ pc clock values words x) .goes e);
+                let now = h s (still s pc₀ clock₀ values₀ words₀ pc clock values words x) in
+                r .run s x ∙ skim-one left _ more (now .common e) ∙ ap (skim (left - 1)) (now .goes e);
             bounded =
                 λ m x y.
                 h (witness up deadline) (witness-timed up deadline size p t pc clock values labels words marks) .clock m (r .bounded m x y) y;
@@ -132,7 +139,7 @@ module _ {size p t : ℕ} {up : Bool} {deadline : ℕ} {labels marks : List ℕ}
             run =
                 λ s x.
                 r .run s x
-                ∙ ap₂ (λ (a b : List ℕ). steps left (view s size p t pc clock a labels b marks))
+                ∙ ap₂ (λ (a b : List ℕ). skim left (view s size p t pc clock a labels b marks))
                 (sym (h s (still s pc₀ clock₀ values₀ words₀ pc clock values words x) .stops e .1))
                 (sym (h s (still s pc₀ clock₀ values₀ words₀ pc clock values words x) .stops e .2));
             paused =

@@ -5,7 +5,7 @@ use Prim.Native.Nat.{ℕ, zero, suc, _+_, _≤_, _<_}
 use mathlib.Core.Path.{_≡_, refl, sym, ap, _∙_, subst}
 use mathlib.Core.Bool.{Bool, true, false, not, _&&_, _||_, cond, true≢false, false≢true}
 use mathlib.Core.List.{List}
-use mathlib.Core.Logic.{_⊎_, inl, inr}
+use mathlib.Core.Logic.{_⊎_, inl, inr, ⊎-elim}
 use mathlib.Core.Option.{some}
 use native.Mathlib.Omega.{arith}
 use borrow.Author.Tests.{ltb-true, ltb-false, leb-true, leb-false, lt-ltb, le-ltb, eq-eqb, ne-eqb}
@@ -13,12 +13,14 @@ use lib.Dec.{leb, ltb, eqb}
 use lib.ListN.{getD, set}
 use Rattle.labels.specs.Label.{flows, join}
 use Rattle.model.specs.Record.{State, register, word, inUpcall}
-use Rattle.model.specs.Word.{Op, opField, decode}
-use Rattle.model.specs.Ops.{Write, nothing, value, Change, write, goto, does, row, strictRow, table}
+use Rattle.model.specs.Word.{Op, immediate, arithmetic, load, store, branch, jump, readClock, setLabel, setPair, upcall, endUpcall, gateCall, gateReturn, halt, opField, decode}
+use Rattle.model.specs.Ops.{Write, nothing, value, label, Change, write, goto, enter, openUpcall, openGate, closeGate, stop, Effect, does, ends, Row, row, strictRow, table}
 use Rattle.model.specs.Step.{spend, close, carry, fetch, fetched, known, endTick, finish, attempt, inTime, plan, beyondLimit, inLimit, running, decide, written, writeOf, changed, controlAfter, apply, step}
+use Rattle.model.proofs.Truth.{either}
 use Rattle.engine.specs.declared.steps.common.Stop.{Stop}
 use Rattle.engine.specs.declared.steps.common.Stop.the-variants.{Late, Failed}
 use Rattle.engine.specs.declared.steps.common.Turn.{Turn}
+use Rattle.engine.specs.Skim.{isCommonOp, isCommon}
 use Rattle.engine.specs.Common.{going, stopping, timed, gone, Assigned, Loaded, Stored, Gone, moving, deadlineOf, Timed, lateOf, Stopped, Turned}
 
 -- ---- truth values
@@ -114,11 +116,18 @@ module _ {s : State} {up : Bool} {deadline : ℕ} (h : Timed s up deadline) wher
         go false e f = rw (e, over-limit (omega arith), spend-over)
         go true e f = tick (ltb (endTick s) (s .fixed .limit)) refl e f
 
-    -- A turn with an op that has this change in these ticks.
-    module _ {w : ℕ} {op : Op} (f : fetch s ≡ fetched w op) (a : attempt s (table s w op) ≡ carry k change) where
+    -- A turn with a common op that has this change in these ticks.
+    module _ {w : ℕ} {op : Op} (f : fetch s ≡ fetched w op) (c : isCommonOp op ≡ true) (a : attempt s (table s w op) ≡ carry k change) where
+      decided : 0 < k → s .control .clock + k ≤ deadline → decide s ≡ carry k change
+      decided p d = rw (decides, f, a, in-time d, in-limit p d)
+
+      common-here : 0 < k → s .control .clock + k ≤ deadline → isCommon s ≡ true
+      unfolding isCommon
+      common-here p d = rw (decided p d, f, c)
+
       pub carried : 0 < k → s .control .clock + k ≤ deadline → step s ≡ apply s (carry k change)
       unfolding step
-      carried p d = rw (decides, f, a, in-time d, in-limit p d)
+      carried p d = rw (decided p d)
 
       pub late : deadline < s .control .clock + k → decide s ≡ inLimit s (lateOf s)
       late d = rw (decides, f, a) (past d)
@@ -137,12 +146,14 @@ module _ {s : State} {up : Bool} {deadline : ℕ} (h : Timed s up deadline) wher
               (cond b words′ (s .memory .values))
           go true q =
               record {
+                common = λ x. common-here p (leb-true _ _ q);
                 goes = λ x. carried p (leb-true _ _ q) ∙ e;
                 stops = λ x. absurd (true≢false x);
                 clock = λ m x y. omega (arith, leb-true (s .control .clock + k) deadline q);
               }
           go false q =
               record {
+                common = λ x. absurd (false≢true x);
                 goes = λ x. absurd (false≢true x);
                 stops = λ x. (late (leb-false _ _ q), refl, refl);
                 clock = λ m x y. omega arith;
@@ -181,13 +192,48 @@ apply-nothing : (s : State) (k : ℕ)
 unfolding apply written writeOf controlAfter changed
 apply-nothing s k = refl
 
+-- An effect that writes a value or goes on elsewhere.
+abbrev Plain : Effect → Type 0
+Plain (does (write nothing)) = ⊥
+Plain (does (write (value x v))) = Unit {0}
+Plain (does (write (label x l))) = ⊥
+Plain (does (goto k)) = Unit {0}
+Plain (does (enter q)) = ⊥
+Plain (does (openUpcall k q e)) = ⊥
+Plain (does (openGate g)) = ⊥
+Plain (does closeGate) = ⊥
+Plain (does stop) = ⊥
+Plain ends = ⊥
+
+-- An op with such an effect is a common one.
+plain-op : (s : State) (w : ℕ) (op : Op) → Plain (table s w op .effect) → isCommonOp op ≡ true
+unfolding table
+plain-op s w immediate h = refl
+plain-op s w (arithmetic f) h = refl
+plain-op s w load h = refl
+plain-op s w store h = refl
+plain-op s w (branch f) h = refl
+plain-op s w jump h = refl
+plain-op s w readClock h = refl
+plain-op s w (setLabel f) h = absurd h
+plain-op s w setPair h = absurd h
+plain-op s w upcall h = absurd h
+plain-op s w endUpcall h = absurd h
+plain-op s w gateCall h = absurd h
+plain-op s w gateReturn h = absurd h
+plain-op s w halt h = absurd h
+
 module _ {s : State} {up : Bool} {deadline w : ℕ} {op : Op} (h : Timed s up deadline) (f : fetch s ≡ fetched w op) where
+  -- The op of a row that sets a value, or goes on elsewhere.
+  common-row : {r : Row} → table s w op ≡ r → Plain (r .effect) → isCommonOp op ≡ true
+  common-row t p = plain-op s w op (subst (λ (r : Row). Plain (r .effect)) (sym t) p)
+
   -- An op that sets register a.
   pub sets-turn : {a : ℕ} {ok : Bool} {v k : ℕ} {r : Turn} {values words : List ℕ}
       → Assigned (s .registers .values) a ok v k (s .control .pc) (s .control .clock) deadline r values → 0 < k
       → table s w op ≡ row ok (does (write (value (register a) v))) k → words ≡ s .memory .values → Turned s deadline r values words
   sets-turn {a} {ok} {v} {k} e p t ew =
-      turn h k (write (cond ok (value (register a) v) nothing)) f (rw t (attempt-write s ok (value (register a) v) k))
+      turn h k (write (cond ok (value (register a) v) nothing)) f (common-row t tt) (rw t (attempt-write s ok (value (register a) v) k))
       (s .control .pc + 1) _ _ p (apply-register s ok a v k) (e .turn) (e .values) (kept (leb (s .control .clock + k) deadline) ew)
 
   -- Op 9.
@@ -205,7 +251,7 @@ module _ {s : State} {up : Bool} {deadline w : ℕ} {op : Op} (h : Timed s up de
       ≡ row (ltb x size && flows (join (join p lb) la) (getD (s .memory .labels) x 0)) (does (write (value (word x) v))) 3
       → values ≡ s .registers .values → Turned s deadline r values words
   stores-turn {x} {v} {p} {lb} {la} {size} e t ev =
-      turn h 3 (write (cond ok (value (word x) v) nothing)) f (rw t (attempt-write s ok (value (word x) v) 3))
+      turn h 3 (write (cond ok (value (word x) v) nothing)) f (common-row t tt) (rw t (attempt-write s ok (value (word x) v) 3))
       (s .control .pc + 1) _ _ (omega arith) (apply-word s ok x v 3) (e .turn) (kept (leb (s .control .clock + 3) deadline) ev) (e .words)
     where
       ok : Bool
@@ -236,13 +282,14 @@ module _ {s : State} {up : Bool} {deadline w : ℕ} {op : Op} (h : Timed s up de
           (cond u (stopping Failed (s .control .pc) (s .control .clock)) (timed 1 (s .control .pc + 1) (s .control .pc) (s .control .clock) deadline))
           → Turned s deadline r values words
       go true u t e er =
-          turn h 1 (goto n) f (go-taken t) n _ _ (omega arith) (apply-goto s n 1) er (kept (leb (s .control .clock + 1) deadline) ev) (kept (leb (s .control .clock + 1) deadline) ew)
+          turn h 1 (goto n) f (common-row t tt) (go-taken t) n _ _ (omega arith) (apply-goto s n 1) er (kept (leb (s .control .clock + 1) deadline) ev) (kept (leb (s .control .clock + 1) deadline) ew)
       go false false t e er =
-          turn h 1 (write nothing) f (go-by t e) (s .control .pc + 1) _ _ (omega arith) (apply-nothing s 1) er
+          turn h 1 (write nothing) f (common-row t tt) (go-by t e) (s .control .pc + 1) _ _ (omega arith) (apply-nothing s 1) er
           (kept (leb (s .control .clock + 1) deadline) ev) (kept (leb (s .control .clock + 1) deadline) ew)
       go false true t e er =
           rw (er, ev, ew)
           (record {
+            common = λ x. absurd (false≢true x);
             goes = λ x. absurd (false≢true x);
             stops = λ x. (go-failed t e, refl, refl);
             clock = λ m x y. x;
@@ -250,29 +297,23 @@ module _ {s : State} {up : Bool} {deadline w : ℕ} {op : Op} (h : Timed s up de
 
 -- ---- the other ops
 
+-- What is at least k and isn't k is above it.
+pub beyond : {k n : ℕ} → k ≤ n → (n ≡ k → ⊥) → k < n
+beyond {k} {n} l d =
+    ⊎-elim (λ (e : ltb k n ≡ true). ltb-true k n e)
+    (λ (e : ltb k n ≡ false). let g = ltb-false k n e in absurd (d (omega arith))) (either (ltb k n))
+
 -- A number that is none of 1 to 14 is 0 or above 14.
 pub no-common : (n : ℕ) → (n ≡ 1 → ⊥) → (n ≡ 2 → ⊥) → (n ≡ 3 → ⊥) → (n ≡ 4 → ⊥) → (n ≡ 5 → ⊥) → (n ≡ 6 → ⊥) → (n ≡ 7 → ⊥)
     → (n ≡ 8 → ⊥) → (n ≡ 9 → ⊥) → (n ≡ 10 → ⊥) → (n ≡ 11 → ⊥) → (n ≡ 12 → ⊥) → (n ≡ 13 → ⊥) → (n ≡ 14 → ⊥) → (n ≡ 0) ⊎ (14 < n)
 no-common zero a b c d e f g h i j k l m o = inl refl
-no-common (suc zero) a b c d e f g h i j k l m o = absurd (a refl)
-no-common (suc (suc zero)) a b c d e f g h i j k l m o = absurd (b refl)
-no-common (suc (suc (suc zero))) a b c d e f g h i j k l m o = absurd (c refl)
-no-common (suc (suc (suc (suc zero)))) a b c d e f g h i j k l m o = absurd (d refl)
-no-common (suc (suc (suc (suc (suc zero))))) a b c d e f g h i j k l m o = absurd (e refl)
-no-common (suc (suc (suc (suc (suc (suc zero)))))) a b c d e f g h i j k l m o = absurd (f refl)
-no-common (suc (suc (suc (suc (suc (suc (suc zero))))))) a b c d e f g h i j k l m o = absurd (g refl)
-no-common (suc (suc (suc (suc (suc (suc (suc (suc zero)))))))) a b c d e f g h i j k l m o = absurd (h refl)
-no-common (suc (suc (suc (suc (suc (suc (suc (suc (suc zero))))))))) a b c d e f g h i j k l m o = absurd (i refl)
-no-common (suc (suc (suc (suc (suc (suc (suc (suc (suc (suc zero)))))))))) a b c d e f g h i j k l m o = absurd (j refl)
-no-common (suc (suc (suc (suc (suc (suc (suc (suc (suc (suc (suc zero))))))))))) a b c d e f g h i j k l m o = absurd (k refl)
-no-common (suc (suc (suc (suc (suc (suc (suc (suc (suc (suc (suc (suc zero)))))))))))) a b c d e f g h i j k l m o = absurd (l refl)
-no-common (suc (suc (suc (suc (suc (suc (suc (suc (suc (suc (suc (suc (suc zero))))))))))))) a b c d e f g h i j k l m o = absurd (m refl)
-no-common (suc (suc (suc (suc (suc (suc (suc (suc (suc (suc (suc (suc (suc (suc zero)))))))))))))) a b c d e f g h i j k l m o = absurd (o refl)
-no-common (suc (suc (suc (suc (suc (suc (suc (suc (suc (suc (suc (suc (suc (suc (suc n))))))))))))))) a b c d e f g h i j k l m o = inr (omega arith)
+no-common (suc n) a b c d e f g h i j k l m o =
+    inr
+    (beyond (beyond (beyond (beyond (beyond (beyond (beyond (beyond (beyond (beyond (beyond (beyond (beyond (beyond (omega arith) a) b) c) d) e) f) g) h) i) j) k) l) m) o)
 
 -- A turn that leaves the state.
-pub stays : (s : State) (deadline : ℕ) (stop : Stop) {r : Turn} → r ≡ stopping stop (s .control .pc) (s .control .clock) → Stopped stop s
+pub stays : (s : State) (deadline : ℕ) (why : Stop) {r : Turn} → r ≡ stopping why (s .control .pc) (s .control .clock) → Stopped why s
     → Turned s deadline r (s .registers .values) (s .memory .values)
-stays s deadline stop q e =
+stays s deadline why q e =
     subst (λ (r : Turn). Turned s deadline r (s .registers .values) (s .memory .values)) (sym q)
-    (record { goes = λ x. absurd (false≢true x); stops = λ x. (e, refl, refl); clock = λ m x y. x })
+    (record { common = λ x. absurd (false≢true x); goes = λ x. absurd (false≢true x); stops = λ x. (e, refl, refl); clock = λ m x y. x })

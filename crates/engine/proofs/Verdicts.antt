@@ -3,17 +3,18 @@
 use Prim.Native.Nat.{ℕ, zero, suc, _+_, _≤_, _<_}
 use mathlib.Core.Path.{_≡_, refl, sym, ap, _∙_, subst}
 use mathlib.Core.Bool.{Bool, true, false, _&&_, _||_, cond, false≢true}
-use mathlib.Core.List.{List}
+use mathlib.Core.List.{List, [], _∷_}
 use mathlib.Core.Logic.{_⊎_, ⊎-elim}
 use mathlib.Core.Option.{Option, none, some}
 use native.Mathlib.Omega.{arith}
 use borrow.Author.Tests.{ltb-true, lt-ltb, le-ltb, eq-eqb, ne-eqb}
 use lib.Dec.{ltb, eqb}
+use lib.ListN.{length, getElem?}
 use Rattle.labels.specs.Label.{flows, validPair}
 use Rattle.model.specs.declared.CallGate.{CallGate}
 use Rattle.model.specs.declared.Call.{Call}
 use Rattle.model.specs.Record.{State, isUpcall, endTickOf, newest, inUpcall}
-use Rattle.model.specs.Word.{Op, endUpcall, halt, opField, decode}
+use Rattle.model.specs.Word.{Op, endUpcall, halt, ops, opField, decode}
 use Rattle.model.specs.Ops.{Change, write, goto, nothing, does, row, isLabel, table}
 use Rattle.model.specs.Step.{Decision, spend, stall, close, carry, failed, fetched, known, fetch, endTick, finish, fault, attempt, plan, beyondLimit, inLimit, running, decide}
 use Rattle.engine.specs.declared.steps.common.Stop.{Stop}
@@ -22,7 +23,7 @@ use Rattle.engine.specs.declared.steps.rest.Act.{Act}
 use Rattle.engine.specs.declared.steps.rest.Act.the-variants.{Pass, Halt}
 use Rattle.engine.specs.declared.steps.rest.Verdict.{Verdict}
 use Rattle.engine.specs.declared.steps.rest.Verdict.the-variants.{Spend, Stall, Close, Carry}
-use Rattle.engine.proofs.Turns.{cond-same}
+use Rattle.engine.proofs.Turns.{cond-same, beyond}
 use Rattle.engine.specs.Common.{lateOf, Uncommon, Stopped}
 use Rattle.engine.specs.Rest.{changeOf, decisionOf, allowed, Acts, Held, Short, Timely, Limited, seen, Other, Ready, Rested, Planned, Decided}
 
@@ -122,34 +123,26 @@ short-carry q h = rw q at h
 
 -- ---- the ops 15 to 22
 
+-- Past the end of a list there is nothing.
+past-end {ℓ} : {A : Type ℓ} (k : ℕ) (xs : List A) → length xs ≤ k → getElem? xs k ≡ none
+past-end zero [] l = refl
+past-end (suc k) [] l = refl
+past-end zero (x ∷ xs) l = absurd (omega arith)
+past-end (suc k) (x ∷ xs) l = past-end k xs (omega arith)
+
+-- A number past the last op is no op's.
+past-ops : (n : ℕ) → 22 < n → decode n ≡ none
+unfolding decode
+past-ops zero l = refl
+past-ops (suc n) l = past-end n ops (omega arith)
+
 -- A number that is no op's, and none of 15 to 22.
 unknown-op : (n : ℕ) → (n ≡ 0) ⊎ (14 < n) → (n ≡ 15 → ⊥) → (n ≡ 16 → ⊥) → (n ≡ 17 → ⊥) → (n ≡ 18 → ⊥) → (n ≡ 19 → ⊥)
     → (n ≡ 20 → ⊥) → (n ≡ 21 → ⊥) → (n ≡ 22 → ⊥) → decode n ≡ none
-unfolding decode
-unknown-op zero o a b c d e f g h = refl
-unknown-op (suc zero) o a b c d e f g h = absurd (⊎-elim (λ q. omega arith) (λ q. omega arith) o)
-unknown-op (suc (suc zero)) o a b c d e f g h = absurd (⊎-elim (λ q. omega arith) (λ q. omega arith) o)
-unknown-op (suc (suc (suc zero))) o a b c d e f g h = absurd (⊎-elim (λ q. omega arith) (λ q. omega arith) o)
-unknown-op (suc (suc (suc (suc zero)))) o a b c d e f g h = absurd (⊎-elim (λ q. omega arith) (λ q. omega arith) o)
-unknown-op (suc (suc (suc (suc (suc zero))))) o a b c d e f g h = absurd (⊎-elim (λ q. omega arith) (λ q. omega arith) o)
-unknown-op (suc (suc (suc (suc (suc (suc zero)))))) o a b c d e f g h = absurd (⊎-elim (λ q. omega arith) (λ q. omega arith) o)
-unknown-op (suc (suc (suc (suc (suc (suc (suc zero))))))) o a b c d e f g h = absurd (⊎-elim (λ q. omega arith) (λ q. omega arith) o)
-unknown-op (suc (suc (suc (suc (suc (suc (suc (suc zero)))))))) o a b c d e f g h = absurd (⊎-elim (λ q. omega arith) (λ q. omega arith) o)
-unknown-op (suc (suc (suc (suc (suc (suc (suc (suc (suc zero))))))))) o a b c d e f g h = absurd (⊎-elim (λ q. omega arith) (λ q. omega arith) o)
-unknown-op (suc (suc (suc (suc (suc (suc (suc (suc (suc (suc zero)))))))))) o a b c d e f g h = absurd (⊎-elim (λ q. omega arith) (λ q. omega arith) o)
-unknown-op (suc (suc (suc (suc (suc (suc (suc (suc (suc (suc (suc zero))))))))))) o a b c d e f g h = absurd (⊎-elim (λ q. omega arith) (λ q. omega arith) o)
-unknown-op (suc (suc (suc (suc (suc (suc (suc (suc (suc (suc (suc (suc zero)))))))))))) o a b c d e f g h = absurd (⊎-elim (λ q. omega arith) (λ q. omega arith) o)
-unknown-op (suc (suc (suc (suc (suc (suc (suc (suc (suc (suc (suc (suc (suc zero))))))))))))) o a b c d e f g h = absurd (⊎-elim (λ q. omega arith) (λ q. omega arith) o)
-unknown-op (suc (suc (suc (suc (suc (suc (suc (suc (suc (suc (suc (suc (suc (suc zero)))))))))))))) o a b c d e f g h = absurd (⊎-elim (λ q. omega arith) (λ q. omega arith) o)
-unknown-op (suc (suc (suc (suc (suc (suc (suc (suc (suc (suc (suc (suc (suc (suc (suc zero))))))))))))))) o a b c d e f g h = absurd (a refl)
-unknown-op (suc (suc (suc (suc (suc (suc (suc (suc (suc (suc (suc (suc (suc (suc (suc (suc zero)))))))))))))))) o a b c d e f g h = absurd (b refl)
-unknown-op (suc (suc (suc (suc (suc (suc (suc (suc (suc (suc (suc (suc (suc (suc (suc (suc (suc zero))))))))))))))))) o a b c d e f g h = absurd (c refl)
-unknown-op (suc (suc (suc (suc (suc (suc (suc (suc (suc (suc (suc (suc (suc (suc (suc (suc (suc (suc zero)))))))))))))))))) o a b c d e f g h = absurd (d refl)
-unknown-op (suc (suc (suc (suc (suc (suc (suc (suc (suc (suc (suc (suc (suc (suc (suc (suc (suc (suc (suc zero))))))))))))))))))) o a b c d e f g h = absurd (e refl)
-unknown-op (suc (suc (suc (suc (suc (suc (suc (suc (suc (suc (suc (suc (suc (suc (suc (suc (suc (suc (suc (suc zero)))))))))))))))))))) o a b c d e f g h = absurd (f refl)
-unknown-op (suc (suc (suc (suc (suc (suc (suc (suc (suc (suc (suc (suc (suc (suc (suc (suc (suc (suc (suc (suc (suc zero))))))))))))))))))))) o a b c d e f g h = absurd (g refl)
-unknown-op (suc (suc (suc (suc (suc (suc (suc (suc (suc (suc (suc (suc (suc (suc (suc (suc (suc (suc (suc (suc (suc (suc zero)))))))))))))))))))))) o a b c d e f g h = absurd (h refl)
-unknown-op (suc (suc (suc (suc (suc (suc (suc (suc (suc (suc (suc (suc (suc (suc (suc (suc (suc (suc (suc (suc (suc (suc (suc n))))))))))))))))))))))) o a b c d e f g h = refl
+unknown-op zero o a b c d e f g h = unfold decode in refl
+unknown-op (suc n) o a b c d e f g h =
+    past-ops (suc n)
+    (beyond (beyond (beyond (beyond (beyond (beyond (beyond (beyond (⊎-elim (λ q. absurd (omega arith)) (λ q. q) o) a) b) c) d) e) f) g) h)
 
 -- ---- what the newest call says of the state
 

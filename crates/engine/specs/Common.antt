@@ -14,6 +14,7 @@ use Rattle.model.specs.Step.{Decision, close, spend, failed, fetch, known, endT
 use Rattle.engine.specs.declared.steps.common.Stop.{Stop}
 use Rattle.engine.specs.declared.steps.common.Stop.the-variants.{Out, Late, Outside, Unreadable, Failed, Rest}
 use Rattle.engine.specs.declared.steps.common.Turn.{Turn}
+use Rattle.engine.specs.Skim.{isCommon}
 
 -- ---- what the leaves answer
 
@@ -114,6 +115,7 @@ Stopped (Rest w) s = Uncommon s w
 
 -- A turn in the state s: a step of the model, or a reason to stop, with registers and memory left.
 pub record Turned (s : State) (deadline : ℕ) (r : Turn) (values words : List ℕ) : Type 0 where
+  pub common : r .done ≡ true → isCommon s ≡ true
   pub goes : r .done ≡ true → step s ≡ moving s (r .pc) (r .clock) values words
   pub stops : r .done ≡ false → Stopped (r .stop) s × (values ≡ s .registers .values) × (words ≡ s .memory .values)
   pub clock : (m : ℕ) → s .control .clock ≤ m → deadline ≤ m → r .clock ≤ m

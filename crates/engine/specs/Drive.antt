@@ -2,7 +2,7 @@
 -- Assumes nothing.
 use Prim.Native.Nat.{ℕ, _≤_}
 use mathlib.Core.Path.{_≡_}
-use mathlib.Core.Bool.{Bool, _&&_, cond}
+use mathlib.Core.Bool.{Bool, true, false, _&&_, cond}
 use mathlib.Core.List.{List}
 use lib.Dec.{leb}
 use lib.ListN.{length}
@@ -13,6 +13,8 @@ use Rattle.model.specs.declared.Control.{Control}
 use Rattle.model.specs.Record.{State, isUpcall, endTickOf}
 use Rattle.model.specs.Step.{steps}
 use Rattle.engine.specs.declared.steps.common.Context.{Context}
+use Rattle.engine.specs.declared.steps.drive.Halted.{Halted}
+use Rattle.engine.specs.Skim.{Skim, skim}
 use Rattle.engine.specs.Common.{deadlineOf}
 
 -- The state of these parts.
@@ -35,7 +37,16 @@ fitting s =
 abbrev pub advanced : ℕ → State → State
 advanced n s = cond (fitting s) (steps n s) s
 
--- ======== Here ends what the public promise cites.
+-- What `skim` gives back and leaves.
+abbrev pub skimmedFrom : Fixed → Halted → List ℕ → List ℕ → List ℕ → List ℕ → Skim
+skimmedFrom fixed r values labels words marks =
+    record { state = stateFrom fixed (r .control) values labels words marks; left = r .left }
+
+-- So many steps at the most of common ops, of such a state.
+abbrev pub skimmed : ℕ → State → Skim
+skimmed n s = cond (fitting s) (skim n s) (record { state = s; left = n })
+
+-- ======== Here ends what the public promises cite.
 
 -- What the steps ask: the ranges of the record, and memory that is lent whole.
 pub record Fit (fixed : Fixed) (control : Control) (lent lentMarks : List ℕ) : Type 0 where
@@ -46,6 +57,7 @@ pub record Fit (fixed : Fixed) (control : Control) (lent lentMarks : List ℕ) :
   pub words : fixed .size ≤ length lent
   pub marks : fixed .size ≤ length lentMarks
 
--- The steps of the model were done.
-pub record Driven (fixed : Fixed) (start : Control) (count : ℕ) (values labels words marks : List ℕ) (r : Control) (values′ labels′ words′ : List ℕ) : Type 0 where
-  pub is : stateFrom fixed r values′ labels′ words′ marks ≡ steps count (stateFrom fixed start values labels words marks)
+-- The steps of the model were done; or where only common ops were asked for, these.
+pub record Driven (fixed : Fixed) (start : Control) (count : ℕ) (alone : Bool) (values labels words marks : List ℕ) (r : Halted) (values′ labels′ words′ : List ℕ) : Type 0 where
+  pub all : alone ≡ false → stateFrom fixed (r .control) values′ labels′ words′ marks ≡ steps count (stateFrom fixed start values labels words marks)
+  pub common : alone ≡ true → skimmedFrom fixed r values′ labels′ words′ marks ≡ skim count (stateFrom fixed start values labels words marks)

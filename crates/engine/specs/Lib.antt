@@ -1,3 +1,4 @@
+pub mod Skim
 -- What the crate's contracts cite.
 pub mod Common
 pub mod Sprint

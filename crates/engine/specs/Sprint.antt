@@ -5,10 +5,10 @@ use mathlib.Core.Path.{_≡_}
 use mathlib.Core.Bool.{Bool}
 use mathlib.Core.List.{List}
 use Rattle.model.specs.Record.{State}
-use Rattle.model.specs.Step.{steps}
 use Rattle.engine.specs.declared.steps.common.Stop.{Stop}
 use Rattle.engine.specs.declared.steps.common.Stop.the-variants.{Out, Late, Outside, Unreadable, Failed, Rest}
 use Rattle.engine.specs.declared.steps.common.Pause.{Pause}
+use Rattle.engine.specs.Skim.{skim}
 use Rattle.engine.specs.Common.{view, Timed, Stopped}
 
 -- Why the loop paused in the state s with n steps left: none is left, or a reason to stop.
@@ -24,8 +24,8 @@ Paused (Rest w) n s = (0 < n) × Stopped (Rest w) s
 pub record Sprinted (size p t : ℕ) (up : Bool) (deadline pc clock left : ℕ) (values labels words marks : List ℕ) (r : Pause) (values′ words′ : List ℕ) : Type 0 where
   pub run :
       (s : State) → Timed (view s size p t pc clock values labels words marks) up deadline
-      → steps left (view s size p t pc clock values labels words marks)
-      ≡ steps (r .left) (view s size p t (r .pc) (r .clock) values′ labels words′ marks)
+      → skim left (view s size p t pc clock values labels words marks)
+      ≡ skim (r .left) (view s size p t (r .pc) (r .clock) values′ labels words′ marks)
   pub paused :
       (s : State) → Timed (view s size p t pc clock values labels words marks) up deadline
       → Paused (r .stop) (r .left) (view s size p t (r .pc) (r .clock) values′ labels words′ marks)

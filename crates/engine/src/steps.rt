@@ -1,13 +1,14 @@
 // So many steps. The ranges that they rest on, and that memory is lent whole, are tested first; where that doesn't hold,
 // nothing is done. The functions below that ask something of their caller are seen here alone.
 use crate::word::index;
+pub use drive::Halted;
 use drive::drive;
 use model::Control;
 use model::Fixed;
 ghost use mathlib.Core.Path.{_≡_};
 ghost use mathlib.Core.Bool.{_&&_};
 ghost use lib.Dec.{leb};
-ghost use Rattle.engine.specs.Drive.{stateFrom, advanced};
+ghost use Rattle.engine.specs.Drive.{stateFrom, advanced, skimmedFrom, skimmed};
 
 mod apply;
 mod common;
@@ -40,7 +41,29 @@ pub fn advance(
     ensures { λ r. ⌜ stateFrom fixed r (now (values .exit)) (now (labels .exit)) (now (words .exit)) (now (marks .entry)) ≡ advanced count (stateFrom fixed start (now (values .entry)) (now (labels .entry)) (now (words .entry)) (now (marks .entry))) ⌝ }
 {
     if is_fitting(fixed, start, words.len(), marks.len()) {
-        return drive(fixed, start, count, values, labels, words, marks);
+        let halted = drive(fixed, start, count, false, values, labels, words, marks);
+        return halted.control;
     }
     start
+}
+
+// The common ops, 1 to 14, for as long as they come, but so many steps at the most.
+pub fn skim(
+    fixed: Fixed,
+    start: Control,
+    count: u32,
+    values: &mut [u32; 16],
+    labels: &mut [u8; 16],
+    words: &mut [u32],
+    marks: &[u8],
+) -> Halted
+    ensures { λ r. ⌜ skimmedFrom fixed r (now (values .exit)) (now (labels .exit)) (now (words .exit)) (now (marks .entry)) ≡ skimmed count (stateFrom fixed start (now (values .entry)) (now (labels .entry)) (now (words .entry)) (now (marks .entry))) ⌝ }
+{
+    if is_fitting(fixed, start, words.len(), marks.len()) {
+        return drive(fixed, start, count, true, values, labels, words, marks);
+    }
+    Halted {
+        control: start,
+        left: count,
+    }
 }

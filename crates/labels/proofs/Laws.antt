@@ -291,6 +291,12 @@ relabel-flows-old n p l m e = relabel-flows n p l m e .0
 pub relabel-flows-new : (n p l m : ℕ) → mayRelabel n p l m ≡ true → Flows n p m
 relabel-flows-new n p l m e = relabel-flows n p l m e .1
 
+-- What was relabelled under p is below the reflection of p.
+pub relabel-reflected : (n p l m : ℕ) → mayRelabel n p l m ≡ true → Flows n m (reflection n p)
+unfolding mayRelabel
+relabel-reflected n p l m e =
+    record { holds = three (flows n p (meet n l m)) (uncompromised n l) (flows n m (reflection n p)) e .2 }
+
 -- The parts of a valid pair.
 valid-parts : (n p t : ℕ) → validPair n p t ≡ true → (flows n p t ≡ true) × (uncompromised n p ≡ true) × (uncompromised n t ≡ true)
 unfolding validPair

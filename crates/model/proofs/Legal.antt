@@ -2,7 +2,7 @@
 -- kind of change and not by op. All later proofs go by these.
 -- Assumes nothing.
 use Prim.Native.Nat.{ℕ, _+_, _%_, _^_, _<_, _≤_}
-use mathlib.Core.Path.{_≡_}
+use mathlib.Core.Path.{_≡_, refl}
 use mathlib.Core.Logic.{_⊎_, inl, inr, ⊎-elim}
 use mathlib.Core.Bool.{Bool, true, false, _&&_, _||_, cond}
 use mathlib.Core.Option.{Option, none, some}
@@ -10,6 +10,7 @@ use native.Mathlib.Nat.{mod-lt, lt-trans}
 use native.Mathlib.Omega.{arith}
 use lib.Bits.{and-lt, or-lt, xor-lt}
 use lib.Dec.{ltb, eqb, lit<, lit≤}
+use lib.ListN.{getD}
 use borrow.Author.Tests.{ltb-true, ltb-false, eqb-true}
 use Rattle.labels.specs.Label.{principals}
 use Rattle.labels.proofs.Laws.{Flows, join-flows, flows-meet, raise-flows-old, raise-flows-new, relabel-flows-old, relabel-flows-new}
@@ -19,7 +20,7 @@ use Rattle.model.specs.Record.{State, Location, register, word, valueAt,
 use Rattle.model.specs.WellFormed.{isValid}
 use Rattle.model.specs.Typed.{Typed, Below}
 use Rattle.model.specs.Word.{Arithmetic, add, subtract, and, or, xor, less, multiply, Rule, raise, relabel, Op, immediate, arithmetic, load, store, branch, jump, readClock, setLabel, setPair, upcall, endUpcall, gateCall, gateReturn, halt, opField, aField, nField, decode, compute}
-use Rattle.model.specs.Ops.{Write, nothing, value, label, Change, write, goto, enter, openUpcall, openGate, closeGate, stop, Effect, does, ends, Row, allows, newPairAllowed, mayUpcall, mayCallGate, mayReturn, multiplyTicks, arithmeticTicks, Ra, newPair, gate, table}
+use Rattle.model.specs.Ops.{Write, nothing, value, label, Change, write, goto, enter, openUpcall, openGate, closeGate, stop, Effect, does, ends, Row, allows, newPairAllowed, mayUpcall, mayCallGate, mayReturn, multiplyTicks, arithmeticTicks, noGate, Ra, Rb, newPair, gate, table}
 use Rattle.model.specs.Step.{known, fetchAllowed, fetch, Decision, rest, spend, stall, close, carry, endTick, finish, fault, passed, attempt, inTime, plan, beyondLimit, inLimit, running, decide}
 use Rattle.model.proofs.Truth.{choice, and-iff, or-iff, or-true, not-iff, clash}
 
@@ -57,8 +58,11 @@ module _ (s : State) where
     pub early : s .control .clock + ticks ≤ e
     pub late : e < s .control .clock + ticks + 2 ^ 32
 
-  -- A gate call through g.
+  -- A gate call through g, which is one of the gates that there are.
   pub record LegalGate (g : CallGate) : Type 0 where
+    pub number : ℕ
+    pub below : number < s .fixed .count
+    pub listed : getD (s .fixed .gates) number noGate ≡ g
     pub empty : isEmpty (newest (s .control)) ≡ true
     pub valid : isValid (g .pair) ≡ true
     pub pc : g .pair .pc ⊑ pcLabel
@@ -223,6 +227,9 @@ module _ (s : State) (typed : Typed s) (w : ℕ) where
             carried
             (gates {g = gate s w}
             (record {
+              number = Rb s w;
+              below = ltb-true _ _ (h .0 .0 .0 .0 .1);
+              listed = refl;
               empty = h .0 .0 .0 .0 .0;
               valid = h .0 .0 .0 .1;
               pc = record { holds = h .0 .0 .1 };

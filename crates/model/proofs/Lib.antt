@@ -8,4 +8,5 @@ pub mod Load
 pub mod Program
 pub mod Facts
 pub mod Noninterference
+pub mod Certificate
 pub mod WitnessFacts

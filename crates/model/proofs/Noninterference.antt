@@ -22,7 +22,7 @@ use Rattle.model.proofs.Noninterference.Paths.{at-one-tick}
 use Rattle.model.proofs.Noninterference.Trace.{Arrived, arrive, trace-row}
 
 -- It is in no upcall.
-loaded-outside : (s : State) → Loaded s → inUpcall (s .control) ≡ false
+pub loaded-outside : (s : State) → Loaded s → inUpcall (s .control) ≡ false
 unfolding inUpcall newest
 loaded-outside s l = rw (l .second, l .first)
 

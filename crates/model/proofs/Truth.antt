@@ -26,6 +26,10 @@ and-iff true b = ((λ e. (refl, e)), λ h. h .1)
 and-iff false true = ((λ e. (e, refl)), λ h. h .0)
 and-iff false false = ((λ e. (e, e)), λ h. h .0)
 
+-- Three tests that all pass.
+pub and-three : (a b c : Bool) → (a && b && c) ≡ true → (a ≡ true) × (b ≡ true) × (c ≡ true)
+and-three a b c e = let h = and-iff (a && b) c .0 e in let k = and-iff a b .0 (h .0) in (k .0, k .1, h .1)
+
 -- No test both passes and fails.
 pub clash {ℓ} : {P : Type ℓ} {b : Bool} → b ≡ true → b ≡ false → P
 clash p q = absurd (true≢false (sym p ∙ q))

@@ -15,4 +15,5 @@ pub mod Typed
 pub mod Facts
 pub mod Seen
 pub mod Noninterference
+pub mod Certificate
 pub mod Witness

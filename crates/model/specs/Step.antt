@@ -2,7 +2,7 @@
 -- nothing, and says what would happen and at which clock that would finish. The second applies the decision.
 -- Assumes nothing.
 use Prim.Native.Nat.{ℕ, zero, suc, _+_, _-_}
-use mathlib.Core.Bool.{Bool, _&&_, _||_, cond}
+use mathlib.Core.Bool.{Bool, true, false, _&&_, _||_, cond}
 use mathlib.Core.Option.{Option, none, some}
 use lib.Dec.{ltb, eqb}
 use lib.ListN.{set}
@@ -116,6 +116,14 @@ running s = eqb (s .control .end) 0
 -- What a step does.
 unfoldable pub decide : State → Decision
 decide s = cond (running s) (inLimit s (plan s (fetch s))) rest
+
+-- A change is carried out, or an op passes by: neither the end tick nor the limit bars it.
+abbrev pub isDone : Decision → Bool
+isDone rest = false
+isDone spend = false
+isDone (stall why) = false
+isDone (close cause) = false
+isDone (carry ticks change) = true
 
 -- ---- the second stage: the decision applied
 

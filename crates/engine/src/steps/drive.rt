@@ -1,4 +1,4 @@
-// So many steps: the hot loop, then one step of what it stopped at, in turn.
+// So many steps: the hot loop, then one step of what it stopped at, in turn; or the hot loop alone.
 use crate::calls::end_tick;
 use crate::calls::is_upcall;
 use crate::calls::newest;
@@ -44,25 +44,33 @@ fn context_of(size: u32, limit: u32, pair: Pair, call: Call) -> Context
     }
 }
 
-// So many steps, from the control `start` and with the registers and memory as they are lent.
+// Where the steps came to an end: the control, and how many of those asked for were left.
+pub struct Halted {
+    pub control: Control,
+    pub left: u32,
+}
+
+// So many steps, from the control `start` and with the registers and memory as they are lent. With `alone` only the common
+// ops, up to the first step that does none.
 pub(in crate::steps) fn drive(
     fixed: Fixed,
     start: Control,
     count: u32,
+    alone: bool,
     values: &mut [u32; 16],
     labels: &mut [u8; 16],
     words: &mut [u32],
     marks: &[u8],
-) -> Control
+) -> Halted
     requires { ⌜ Fit fixed start (now words) (now marks) ⌝ }
-    ensures { λ r. ⌜ Driven fixed start count (now (values .entry)) (now (labels .entry)) (now (words .entry)) (now (marks .entry)) r (now (values .exit)) (now (labels .exit)) (now (words .exit)) ⌝ }
+    ensures { λ r. ⌜ Driven fixed start count alone (now (values .entry)) (now (labels .entry)) (now (words .entry)) (now (marks .entry)) r (now (values .exit)) (now (labels .exit)) (now (words .exit)) ⌝ }
 {
     let mut control = start;
     let mut left = count;
     while 0 < left {
         let end = control.end;
         if 0 < end {
-            return control;
+            return Halted { control, left };
         }
         let why = control.why;
         let pair = control.pair;
@@ -75,8 +83,11 @@ pub(in crate::steps) fn drive(
         let pause = sprint(context, at, from, left, values, labels, words, marks);
         let pc = pause.pc;
         let clock = pause.clock;
-        if pause.left == 0 {
-            return control_of(pc, pair, clock, first, second, end, why);
+        if alone | (pause.left == 0) {
+            return Halted {
+                control: control_of(pc, pair, clock, first, second, end, why),
+                left: pause.left,
+            };
         }
         let stop = pause.stop;
         let verdict = decide(stop, fixed, pair, pc, clock, call, values, labels);
@@ -94,5 +105,5 @@ pub(in crate::steps) fn drive(
         );
         left = pause.left - 1;
     }
-    control
+    Halted { control, left }
 }

@@ -74,7 +74,7 @@ pub record Lost (ℓ : ℕ) (c : Control) : Type 0 where
   pub closed : inUpcall c ≡ true → within ℓ (pairOf (newest c) .pc) ≡ false
 
 -- With the newest call closed no upcall is open.
-restored-closed : {now : Pair} {clock : ℕ} (c : Control) (k : ℕ) → CallsFit now clock (c .first) (c .second)
+pub restored-closed : {now : Pair} {clock : ℕ} (c : Control) (k : ℕ) → CallsFit now clock (c .first) (c .second)
     → inUpcall (restored c k) ≡ false
 unfolding restored inUpcall newest
 restored-closed c k f = go f
@@ -86,7 +86,7 @@ restored-closed c k f = go f
     go (both h u) = refl
 
 -- With an upcall opened it is the newest call, and it keeps the pair.
-opened-upcall : {now : Pair} {clock : ℕ} {x y : Call} (k e : ℕ) (q : Pair) → CallsFit now clock x y
+pub opened-upcall : {now : Pair} {clock : ℕ} {x y : Call} (k e : ℕ) (q : Pair) → CallsFit now clock x y
     → isUpcall (cond (isEmpty y) x y) ≡ false
     → pairOf (cond (isEmpty (cond (isEmpty x) Empty (Upcall k q e))) (cond (isEmpty x) (Upcall k q e) x) (cond (isEmpty x) Empty (Upcall k q e))) ≡ q
 opened-upcall k e q none n = refl
@@ -95,7 +95,7 @@ opened-upcall k e q (upcall h) n = clash refl n
 opened-upcall k e q (both h u) n = clash refl n
 
 -- With a gate call opened it is the newest call.
-opened-gate : {now : Pair} {clock : ℕ} {x y : Call} (k : ℕ) (q : Pair) → CallsFit now clock x y
+pub opened-gate : {now : Pair} {clock : ℕ} {x y : Call} (k : ℕ) (q : Pair) → CallsFit now clock x y
     → isEmpty (cond (isEmpty y) x y) ≡ true
     → isUpcall (cond (isEmpty (cond (isEmpty x) Empty (Gate k q))) (cond (isEmpty x) (Gate k q) x) (cond (isEmpty x) Empty (Gate k q))) ≡ false
 opened-gate k q none n = refl
@@ -123,7 +123,7 @@ lost-change ℓ s k f l g (returns r p) =
 lost-change ℓ s k f l g (stops n) = record { outside = l .outside; closed = l .closed }
 
 -- So does a decision.
-lost-decision : (ℓ : ℕ) (s : State) {d : Decision} → Fit (s .fixed) (s .control) → Lost ℓ (s .control)
+pub lost-decision : (ℓ : ℕ) (s : State) {d : Decision} → Fit (s .fixed) (s .control) → Lost ℓ (s .control)
     → (callsGate d ≡ true → within ℓ (controlAfter s d .pair .pc) ≡ false) → Legal s d → Lost ℓ (controlAfter s d)
 unfolding controlAfter restored inUpcall newest
 lost-decision ℓ s f l g (rests r) = l

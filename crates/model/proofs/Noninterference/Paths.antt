@@ -67,7 +67,7 @@ unfolding seenControl
 no-control ℓ s t e f = rw (e, f) refl
 
 -- A state whose pc label is within has its timing label within, by the proviso.
-timing-within : (ℓ : ℕ) (s : State) → timedFromOutside ℓ s ≡ false → within ℓ (s .control .pair .pc) ≡ true
+pub timing-within : (ℓ : ℕ) (s : State) → timedFromOutside ℓ s ≡ false → within ℓ (s .control .pair .pc) ≡ true
     → within ℓ (s .control .pair .timing) ≡ true
 unfolding timedFromOutside
 timing-within ℓ s p e =
@@ -79,19 +79,19 @@ timing-within ℓ s p e =
 -- ---- how two machines with one control stand
 
 -- A control outside, in an upcall that was kept with the pc label within, and running.
-record Abroad (ℓ : ℕ) (c : Control) : Type 0 where
+pub record Abroad (ℓ : ℕ) (c : Control) : Type 0 where
   outside : within ℓ (c .pair .pc) ≡ false
   upcall : inUpcall c ≡ true
   kept : within ℓ (pairOf (newest c) .pc) ≡ true
   running : eqb (c .end) 0 ≡ true
 
 -- The machine is then away.
-away : (ℓ : ℕ) (s : State) → Abroad ℓ (s .control) → Away ℓ s
+pub away : (ℓ : ℕ) (s : State) → Abroad ℓ (s .control) → Away ℓ s
 unfolding running
 away ℓ s h = record { outside = h .outside; upcall = h .upcall; kept = h .kept; alive = inl (h .running) }
 
 -- A running control outside is abroad or lost.
-abroad : (ℓ : ℕ) (c : Control) → within ℓ (c .pair .pc) ≡ false → eqb (c .end) 0 ≡ true → Abroad ℓ c ⊎ Lost ℓ c
+pub abroad : (ℓ : ℕ) (c : Control) → within ℓ (c .pair .pc) ≡ false → eqb (c .end) 0 ≡ true → Abroad ℓ c ⊎ Lost ℓ c
 abroad ℓ c o r =
     ⊎-elim
     (λ (u : inUpcall c ≡ true).
@@ -128,7 +128,7 @@ seen-unseen : {c : Control} → seen c ≡ unseen → ⊥
 seen-unseen e = let z : _≡_ {A = ℕ} 0 1 = cc in omega arith
 
 -- Of a control that is seen in both it is one.
-seen-control : (ℓ : ℕ) (s t : State) → seenControl ℓ s ≡ seenControl ℓ t
+pub seen-control : (ℓ : ℕ) (s t : State) → seenControl ℓ s ≡ seenControl ℓ t
     → (s .control ≡ t .control) ⊎ ((within ℓ (s .control .pair .pc) ≡ false) × (within ℓ (t .control .pair .pc) ≡ false))
 unfolding seenControl
 seen-control ℓ s t e =
@@ -176,7 +176,7 @@ data Journey (ℓ j : ℕ) (s : State) : Type 0 where
       → timedFromOutside ℓ u ≡ false → Journey ℓ j s
 
 -- The end tick goes by the open calls.
-end-tick-same : (s t : State) → s .control .first ≡ t .control .first → s .control .second ≡ t .control .second
+pub end-tick-same : (s t : State) → s .control .first ≡ t .control .first → s .control .second ≡ t .control .second
     → endTick s ≡ endTick t
 unfolding endTick newest
 end-tick-same s t p q = ap₂ (λ (x y : Call). endTickOf (cond (isEmpty y) x y)) p q
@@ -230,7 +230,7 @@ not-alone ℓ k e limit s r a h p q l m =
 -- ---- two machines to one tick
 
 -- Equal settings stay equal.
-setting-on : {s t : State} (u v : State) → SameSetting s t → u .fixed ≡ s .fixed → v .fixed ≡ t .fixed → SameSetting u v
+pub setting-on : {s t : State} (u v : State) → SameSetting s t → u .fixed ≡ s .fixed → v .fixed ≡ t .fixed → SameSetting u v
 setting-on u v e p q =
     record {
       size = ap (λ (f : Fixed). f .size) p ∙ e .size ∙ sym (ap (λ (f : Fixed). f .size) q);

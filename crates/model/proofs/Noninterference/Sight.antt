@@ -107,7 +107,7 @@ pub data Visible (ℓ : ℕ) (s : State) : Write → Type 0 where
   marks : {x : Location} {l : ℕ} → within ℓ (labelAt s x) ≡ true → Visible ℓ s (label x l)
 
 -- One location, where the test says so.
-same-location : (x y : Location) → same x y ≡ true → x ≡ y
+pub same-location : (x y : Location) → same x y ≡ true → x ≡ y
 same-location (register j) (register k) e = ap register (eqb-true j k e)
 same-location (register j) (word k) e = clash e refl
 same-location (word j) (register k) e = clash e refl

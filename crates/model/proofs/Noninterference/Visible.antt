@@ -32,11 +32,11 @@ use Rattle.model.proofs.Noninterference.Hidden.{legal-fits, step-writte
 -- ---- registers that a word names
 
 -- The register numbers of a word are below 16.
-a-exists : (s : State) (w : ℕ) → exists s (register (aField w)) ≡ true
+pub a-exists : (s : State) (w : ℕ) → exists s (register (aField w)) ≡ true
 unfolding aField
 a-exists s w = inside-exists s (register (w / 2 ^ 20 % 2 ^ 4)) (mod-lt _ (lit< tt))
 
-b-exists : (s : State) (w : ℕ) → exists s (register (bField w)) ≡ true
+pub b-exists : (s : State) (w : ℕ) → exists s (register (bField w)) ≡ true
 unfolding bField
 b-exists s w = inside-exists s (register (w / 2 ^ 16 % 2 ^ 4)) (mod-lt _ (lit< tt))
 
@@ -163,7 +163,7 @@ module _ {ℓ : ℕ} {c : Control} {a b : State} (h : Together ℓ c a b) (w : �
 -- ---- decisions, but for what they write
 
 -- The decision without what it writes.
-abbrev bare : Decision → Decision
+abbrev pub bare : Decision → Decision
 bare rest = rest
 bare spend = spend
 bare (stall why) = stall why
@@ -177,7 +177,7 @@ bare (carry ticks closeGate) = carry ticks closeGate
 bare (carry ticks stop) = carry ticks stop
 
 -- An op would finish past the end tick of its upcall.
-abbrev late : State → Decision → Bool
+abbrev pub late : State → Decision → Bool
 late s rest = false
 late s spend = false
 late s (stall why) = false
@@ -185,7 +185,7 @@ late s (close cause) = false
 late s (carry ticks change) = inUpcall (s .control) && ltb (endTick s) (s .control .clock + ticks)
 
 -- In time is: closed with cause 2 where it is late.
-in-time-late : (s : State) (d : Decision) → inTime s d ≡ cond (late s d) (close 2) d
+pub in-time-late : (s : State) (d : Decision) → inTime s d ≡ cond (late s d) (close 2) d
 in-time-late s rest = refl
 in-time-late s spend = refl
 in-time-late s (stall why) = refl
@@ -220,10 +220,10 @@ one-control c a b e (close cause) = (refl, refl, refl)
 one-control c a b e (carry ticks change) = (refl, refl, refl)
 
 -- The two decisions are one but for what they write, and what the one writes within sight the other writes too.
-record Similar (ℓ : ℕ) (s t : State) (d e : Decision) : Type 0 where
-  bare : bare d ≡ bare e
-  there : Visible ℓ s (writeOf s d) → writeOf t e ≡ writeOf s d
-  back : Visible ℓ t (writeOf t e) → writeOf s d ≡ writeOf t e
+pub record Similar (ℓ : ℕ) (s t : State) (d e : Decision) : Type 0 where
+  pub bare : bare d ≡ bare e
+  pub there : Visible ℓ s (writeOf s d) → writeOf t e ≡ writeOf s d
+  pub back : Visible ℓ t (writeOf t e) → writeOf s d ≡ writeOf t e
 
 -- Of two choices by one test.
 similar-choice : {ℓ : ℕ} {s t : State} (b : Bool) {d e f g : Decision} → Similar ℓ s t d e → Similar ℓ s t f g
@@ -380,7 +380,7 @@ module _ {ℓ : ℕ} {c : Control} {a b : State} (h : Together ℓ c a b) where
   row-similar w halt = steers w halt refl refl tt tt
 
   -- The fetch is the same in both.
-  fetch-same : fetch (withControl a c) ≡ fetch (withControl b c)
+  pub fetch-same : fetch (withControl a c) ≡ fetch (withControl b c)
   unfolding fetch
   fetch-same =
       same-choice (ltb (c .pc) (a .fixed .size)) (ltb (c .pc) (b .fixed .size)) _ _ _
@@ -427,7 +427,7 @@ module _ {ℓ : ℕ} {c : Control} {a b : State} (h : Together ℓ c a b) where
       rw (bars d e same) (similar-choice (beyondLimit (withControl b c) e) (similar-equal spend) s)
 
   -- What a step does.
-  decide-similar : Similar ℓ (withControl a c) (withControl b c) (decide (withControl a c)) (decide (withControl b c))
+  pub decide-similar : Similar ℓ (withControl a c) (withControl b c) (decide (withControl a c)) (decide (withControl b c))
   unfolding decide running
   decide-similar =
       similar-choice (eqb (c .end) 0)
@@ -451,7 +451,7 @@ label-control s c (register k) = refl
 label-control s c (word k) = refl
 
 -- The labels after a step are those after its write.
-step-label : (s : State) (x : Location) → labelAt (step s) x ≡ labelAt (written s (writeOf s (decide s))) x
+pub step-label : (s : State) (x : Location) → labelAt (step s) x ≡ labelAt (written s (writeOf s (decide s))) x
 unfolding step apply
 step-label s x = label-control (written s (writeOf s (decide s))) (controlAfter s (decide s)) x
 

@@ -1,7 +1,8 @@
 -- `engine::steps::advance` meets its contract.
 -- Assumes nothing.
-use mathlib.Core.Path.{sym, _∙_}
+use mathlib.Core.Path.{sym, refl, _∙_}
 use borrow.Author.Needs.{needs}
+use Rattle.engine.specs.Drive.{Fit}
 use Rattle.engine.proofs.Driving.{fit-there, advanced-there}
 use Rattle.engine.proofs.steps.advance.Statement.{statement}
 use Rattle.engine.proofs.steps.advance.Tie as tie
@@ -10,13 +11,18 @@ is-fitting-requires : tie.Need-is-fitting-requires
 is-fitting-requires c κs = search needs
 
 drive-requires : tie.Need-drive-requires
-drive-requires c κs = fit-there (sym (c .before .before .before .before .is-fitting .ensures) ∙ c .before .before .before .if1 .taken)
+drive-requires c κs =
+    fit-there (sym (c .before .before .before .before .is-fitting .ensures) ∙ c .before .before .before .if1 .taken)
 
 same-length : tie.Need-same-length
 same-length c = search needs
 
 returns : tie.Need-returns
-returns c = c .before .before .drive .ensures .is ∙ sym (advanced-there _ _ _ (fit-there (sym (c .before .before .before .before .before .before .before .is-fitting .ensures) ∙ c .before .before .before .before .before .before .if1 .taken)))
+returns c =
+    let driven = c .before .before .before in
+    let tested = driven .before .before .before .before in
+    driven .drive .ensures .all refl
+    ∙ sym (advanced-there _ _ _ (fit-there (sym (tested .before .is-fitting .ensures) ∙ tested .if1 .taken)))
 
 returns-2 : tie.Need-returns-2
 returns-2 c = rw (← c .before .is-fitting .ensures, c .if1 .left)

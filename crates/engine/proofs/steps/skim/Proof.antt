@@ -1,0 +1,30 @@
+-- `engine::steps::skim` meets its contract.
+-- Assumes nothing.
+use mathlib.Core.Path.{sym, refl, _∙_}
+use borrow.Author.Needs.{needs}
+use Rattle.engine.proofs.Driving.{fit-there, skimmed-there}
+use Rattle.engine.proofs.steps.skim.Statement.{statement}
+use Rattle.engine.proofs.steps.skim.Tie as tie
+
+is-fitting-requires : tie.Need-is-fitting-requires
+is-fitting-requires c κs = search needs
+
+drive-requires : tie.Need-drive-requires
+drive-requires c κs =
+    fit-there (sym (c .before .before .before .before .is-fitting .ensures) ∙ c .before .before .before .if1 .taken)
+
+same-length : tie.Need-same-length
+same-length c = search needs
+
+returns : tie.Need-returns
+returns c =
+    let driven = c .before .before in
+    let tested = driven .before .before .before .before in
+    driven .drive .ensures .common refl
+    ∙ sym (skimmed-there _ _ _ (fit-there (sym (tested .before .is-fitting .ensures) ∙ tested .if1 .taken)))
+
+returns-2 : tie.Need-returns-2
+returns-2 c = rw (← c .before .is-fitting .ensures, c .if1 .left)
+
+pub skim-spec : {M : Type 1} → statement M
+skim-spec = tie.close (tie.spec is-fitting-requires drive-requires same-length returns returns-2)
