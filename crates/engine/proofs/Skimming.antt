@@ -11,7 +11,7 @@ use lib.ListN.{drop, getElem?}
 use borrow.Author.Tests.{ne-eqb}
 use Rattle.model.specs.Record.{State, inUpcall}
 use Rattle.model.specs.Word.{Op, ops, decode, opField}
-use Rattle.model.specs.Step.{Decision, rest, spend, stall, close, carry, isDone, known, fetch, plan, beyondLimit, inLimit, running, decide, step, steps}
+use Rattle.model.specs.Step.{Decision, rest, spend, stall, close, carry, isCarried, known, fetch, plan, beyondLimit, inLimit, running, decide, step, steps}
 use Rattle.model.proofs.Truth.{choice}
 use Rattle.engine.specs.declared.steps.common.Stop.{Stop}
 use Rattle.engine.specs.declared.steps.common.Stop.the-variants.{Out, Late, Outside, Unreadable, Failed, Rest}
@@ -30,12 +30,12 @@ skim-steps (suc n) s =
 -- ---- where the hot loop stops
 
 -- What the limit leaves of a close or of spent time is done by no op.
-not-done : (s : State) (d : Decision) → isDone d ≡ false → isDone (inLimit s d) ≡ false
+not-done : (s : State) (d : Decision) → isCarried d ≡ false → isCarried (inLimit s d) ≡ false
 unfolding inLimit
-not-done s d e = choice (λ (x : Decision). isDone x ≡ false) (beyondLimit s d) _ _ (λ b. refl) (λ b. e)
+not-done s d e = choice (λ (x : Decision). isCarried x ≡ false) (beyondLimit s d) _ _ (λ b. refl) (λ b. e)
 
-late-not-done : (s : State) → isDone (lateOf s) ≡ false
-late-not-done s = choice (λ (x : Decision). isDone x ≡ false) (inUpcall (s .control)) _ _ (λ b. refl) (λ b. refl)
+late-not-done : (s : State) → isCarried (lateOf s) ≡ false
+late-not-done s = choice (λ (x : Decision). isCarried x ≡ false) (inUpcall (s .control)) _ _ (λ b. refl) (λ b. refl)
 
 -- None of these ops is a common one.
 abbrev NoneCommon : List Op → Type 0

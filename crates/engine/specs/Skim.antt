@@ -4,7 +4,7 @@ use Prim.Native.Nat.{ℕ, zero, suc}
 use mathlib.Core.Bool.{Bool, true, false, _&&_, cond}
 use Rattle.model.specs.Record.{State}
 use Rattle.model.specs.Word.{Op, immediate, arithmetic, load, store, branch, jump, readClock, setLabel, setPair, upcall, endUpcall, gateCall, gateReturn, halt}
-use Rattle.model.specs.Step.{Fetched, failed, fetched, fetch, isDone, decide, step}
+use Rattle.model.specs.Step.{Fetched, failed, fetched, fetch, isCarried, decide, step}
 
 -- An op that only writes a value or goes on elsewhere: ops 1 to 14.
 abbrev pub isCommonOp : Op → Bool
@@ -30,7 +30,7 @@ fetchesCommon (fetched w op) = isCommonOp op
 
 -- A step from this state does such an op: it is carried out, or it passes by.
 unfoldable pub isCommon : State → Bool
-isCommon s = isDone (decide s) && fetchesCommon (fetch s)
+isCommon s = isCarried (decide s) && fetchesCommon (fetch s)
 
 -- Where such steps came to an end, and how many of those asked for were left.
 pub record Skim : Type 0 where

@@ -12,7 +12,7 @@ use Rattle.model.specs.declared.Fixed.{Fixed}
 use Rattle.model.specs.Record.{Bank, State, inUpcall}
 use Rattle.model.specs.Word.{Op, immediate, arithmetic, load as loadWord, store, branch, jump, readClock, setLabel, setPair, upcall, endUpcall, gateCall, gateReturn, halt, raise, relabel}
 use Rattle.model.specs.Ops.{isLabel, noGate, p, La, Lb, Rb}
-use Rattle.model.specs.Step.{Fetched, failed, fetched, fetch, isDone, decide, step, steps}
+use Rattle.model.specs.Step.{Fetched, failed, fetched, fetch, isCarried, decide, step, steps}
 use Rattle.model.specs.Load.{load}
 use Rattle.model.specs.Program.{stateOfLoad}
 use Rattle.model.specs.Seen.{within, LowEquivalent}
@@ -53,7 +53,7 @@ releases ℓ s (fetched w op) = isRelabelling op && triesRelease ℓ s w
 
 -- A step from this state attempts a release to within ℓ.
 unfoldable pub attempts : ℕ → State → Bool
-attempts ℓ s = isDone (decide s) && releases ℓ s (fetch s)
+attempts ℓ s = isCarried (decide s) && releases ℓ s (fetch s)
 
 -- 2. One of the first n gates leads within ℓ.
 unfoldable pub leadsWithin : ℕ → Fixed → ℕ → Bool

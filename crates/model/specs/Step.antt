@@ -118,12 +118,12 @@ unfoldable pub decide : State → Decision
 decide s = cond (running s) (inLimit s (plan s (fetch s))) rest
 
 -- A change is carried out, or an op passes by: neither the end tick nor the limit bars it.
-abbrev pub isDone : Decision → Bool
-isDone rest = false
-isDone spend = false
-isDone (stall why) = false
-isDone (close cause) = false
-isDone (carry ticks change) = true
+abbrev pub isCarried : Decision → Bool
+isCarried rest = false
+isCarried spend = false
+isCarried (stall why) = false
+isCarried (close cause) = false
+isCarried (carry ticks change) = true
 
 -- ---- the second stage: the decision applied
 

@@ -18,7 +18,7 @@ use Rattle.model.specs.declared.Call.the-variants.{Empty, Gate, Upcall}
 use Rattle.model.specs.Record.{State, Location, register, word, labelAt, isEmpty, isUpcall, newest, inUpcall}
 use Rattle.model.specs.Word.{Rule, raise, relabel, Op, immediate, arithmetic, load, store, branch, jump, readClock, setLabel, setPair, upcall, endUpcall, gateCall, gateReturn, halt, aField}
 use Rattle.model.specs.Ops.{Write, nothing, value, label, Change, write, goto, enter, openUpcall, openGate, closeGate, stop, Effect, does, ends, Row, isLabel, allows, noGate, La, Lb, Rb, table}
-use Rattle.model.specs.Step.{Fetched, failed, fetched, fetch, Decision, rest, spend, stall, close, carry, fault, passed, attempt, inTime, plan, beyondLimit, inLimit, running, decide, isDone, causeAllowed, causeWrite, changeWrite, writeOf, written, controlAfter, changed, step}
+use Rattle.model.specs.Step.{Fetched, failed, fetched, fetch, Decision, rest, spend, stall, close, carry, fault, passed, attempt, inTime, plan, beyondLimit, inLimit, running, decide, isCarried, causeAllowed, causeWrite, changeWrite, writeOf, written, controlAfter, changed, step}
 use Rattle.model.specs.Seen.{within, exists}
 use Rattle.model.specs.Noninterference.{downgrades, callsGate, gateCallsIn, timedFromOutside, StepProvisos}
 use Rattle.model.specs.Certificate.{isRelabelling, triesRelease, releases, attempts, leadsWithin, atLarge, breaks}
@@ -56,7 +56,7 @@ record Set (s : State) (x : Location) (l : ℕ) : Type 0 where
   check : (isLabel (Rb s word) && allows rule (s .control .pair .pc) (La s word) (Rb s word) && flows (Lb s word) (s .control .pair .pc)) ≡ true
   location : register (aField word) ≡ x
   label : Rb s word ≡ l
-  done : isDone (decide s) ≡ true
+  done : isCarried (decide s) ≡ true
 
 -- Two writes of a label that are one.
 same-label : {x y : Location} {l m : ℕ} → label x l ≡ label y m → (x ≡ y) × (l ≡ m)
@@ -113,7 +113,7 @@ module _ (s : State) where
             → writeOf s (attempt s (record { check = b; effect = does (write (label (register (aField w)) (Rb s w))); ticks = 2; strict = false })) ≡ label x l
             → Set s x l
         go true c d e =
-            record { word = w; rule = g; fetched = f; check = c; location = same-label e .0; label = same-label e .1; done = ap isDone d }
+            record { word = w; rule = g; fetched = f; check = c; location = same-label e .0; label = same-label e .1; done = ap isCarried d }
         go false c d e = absurd (plain-label {w = nothing} tt e)
     set-op w setPair f d e = absurd (plain-label (plain-attempt (table s w setPair) tt) e)
     set-op w upcall f d e = absurd (plain-label (plain-attempt (table s w upcall) tt) e)

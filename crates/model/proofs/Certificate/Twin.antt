@@ -20,7 +20,7 @@ use Rattle.model.specs.declared.Call.{Call}
 use Rattle.model.specs.Record.{State, Location, register, valueAt, labelAt, pairOf, newest, inUpcall}
 use Rattle.model.specs.Word.{Op, aField, bField}
 use Rattle.model.specs.Ops.{Change, write, goto, enter, openUpcall, openGate, closeGate, stop, noGate, isLabel, La, Lb, Rb}
-use Rattle.model.specs.Step.{Fetched, failed, fetched, fetch, Decision, rest, spend, stall, close, carry, endTick, running, decide, isDone, withControl, changed, controlAfter, restored, step}
+use Rattle.model.specs.Step.{Fetched, failed, fetched, fetch, Decision, rest, spend, stall, close, carry, endTick, running, decide, isCarried, withControl, changed, controlAfter, restored, step}
 use Rattle.model.specs.Seen.{within, seenControl}
 use Rattle.model.specs.Noninterference.{callsGate, timedFromOutside, StepProvisos, SameSetting}
 use Rattle.model.specs.Certificate.{isRelabelling, triesRelease, releases, attempts, leadsWithin, atLarge, Certificate, releaseFrom, breaks, breakAt}
@@ -48,19 +48,19 @@ outside-quiet ℓ s o = rw (releases-outside ℓ s o (fetch s), and-false)
 
 -- ---- level machines attempt both or neither
 
--- Whether an op is done does not go by what it writes.
-done-bare : (d : Decision) → isDone (bare d) ≡ isDone d
-done-bare rest = refl
-done-bare spend = refl
-done-bare (stall why) = refl
-done-bare (close cause) = refl
-done-bare (carry ticks (write x)) = refl
-done-bare (carry ticks (goto k)) = refl
-done-bare (carry ticks (enter q)) = refl
-done-bare (carry ticks (openUpcall k q e)) = refl
-done-bare (carry ticks (openGate g)) = refl
-done-bare (carry ticks closeGate) = refl
-done-bare (carry ticks stop) = refl
+-- Whether an op is carried out does not go by what it writes.
+carried-bare : (d : Decision) → isCarried (bare d) ≡ isCarried d
+carried-bare rest = refl
+carried-bare spend = refl
+carried-bare (stall why) = refl
+carried-bare (close cause) = refl
+carried-bare (carry ticks (write x)) = refl
+carried-bare (carry ticks (goto k)) = refl
+carried-bare (carry ticks (enter q)) = refl
+carried-bare (carry ticks (openUpcall k q e)) = refl
+carried-bare (carry ticks (openGate g)) = refl
+carried-bare (carry ticks closeGate) = refl
+carried-bare (carry ticks stop) = refl
 
 -- Tried in the one it is tried in the other: the label outside is outside in both, and the rest can be seen.
 tries-there : {ℓ : ℕ} {c : Control} {a b : State} → Together ℓ c a b → (w : ℕ) → triesRelease ℓ (withControl a c) w ≡ true
@@ -88,7 +88,7 @@ together-attempts : {ℓ : ℕ} {c : Control} {a b : State} → Together ℓ c a
 unfolding attempts
 together-attempts {ℓ} {c} {a} {b} h k =
     ap₂ (λ (x y : Bool). x && y)
-    (sym (done-bare (decide (withControl a c))) ∙ ap isDone (decide-similar h .bare) ∙ done-bare (decide (withControl b c)))
+    (sym (carried-bare (decide (withControl a c))) ∙ ap isCarried (decide-similar h .bare) ∙ carried-bare (decide (withControl b c)))
     (releases-same h k (fetch (withControl a c)) ∙ ap (releases ℓ (withControl b c)) (fetch-same h))
 
 -- The same of two states with equal control.
