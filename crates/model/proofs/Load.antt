@@ -168,7 +168,7 @@ judged r last n (l ∷ ls) m r′ e h =
     judged (withLine r l) (lastOf l) (n + 1) ls (withWord m l) r′ (a .1) (line-in-order r m last l (a .0) h)
 
 -- A line leaves the size.
-line-size : (r : Machine) (l : Line) → withLine r l .fixed .size ≡ r .fixed .size
+pub line-size : (r : Machine) (l : Line) → withLine r l .fixed .size ≡ r .fixed .size
 line-size r (M a b c d e f) = refl
 line-size r (G pc p t) = refl
 line-size r (R k l v) = refl
