@@ -1,7 +1,7 @@
 -- A line judged: what an accepted line and an accepted text allow.
 -- Assumes nothing.
 use Prim.Native.Nat.{ℕ, _+_}
-use mathlib.Core.Path.{_≡_, refl}
+use mathlib.Core.Path.{_≡_, refl, ap, _∙_}
 use mathlib.Core.Bool.{true}
 use mathlib.Core.List.{List, [], _∷_}
 use Rattle.causes.specs.declared.Outcome.the-variants.{Done}
@@ -10,10 +10,11 @@ use Rattle.causes.proofs.Order.{AllPass, all-pass}
 use Rattle.model.specs.declared.format.Line.{Line}
 use Rattle.model.specs.declared.format.Line.the-variants.{M, G, R, W, Malformed}
 use Rattle.model.specs.declared.judging.Last.{Last}
-use Rattle.model.specs.Record.{Machine}
-use Rattle.model.specs.Load.{entryInRange, lineTests, lastOf, withLine, accept, judge}
+use Rattle.model.specs.Record.{Bank, Machine}
+use Rattle.model.specs.Text.{lines}
+use Rattle.model.specs.Load.{machineOfHeader, entryInRange, lineTests, behindHeader, lastOf, withLine, accept, judge, judgeText}
 use Rattle.model.proofs.Truth.{and-iff, clash}
-use Rattle.model.proofs.Load.{judge-accept, line-size}
+use Rattle.model.proofs.Load.{judge-accept, line-size, judge-size, text-accepts}
 use Rattle.loader.specs.Load.{takes, isStorable, storable}
 
 module _ (size count : ℕ) (last : Last) where
@@ -52,3 +53,12 @@ accepted-storable r last n (l ∷ ls) r′ e =
       line-storable (r .fixed .size) (r .fixed .count) last l (a .0),
       rw (line-size r l) at (accepted-storable (withLine r l) (lastOf l) (n + 1) ls r′ (a .1)),
     )
+
+pub text-storable : (text : List ℕ) (m : Bank) (r : Machine) → judgeText text m ≡ accept r
+    → storable (r .fixed .size) (lines text) ≡ true
+unfolding storable
+text-storable text m r e =
+    let a = text-accepts text m r e in
+    ap (storable (r .fixed .size)) (a .is)
+    ∙ ap (λ (n : ℕ). storable n (a .rest)) (judge-size (machineOfHeader (a .header)) behindHeader 2 (a .rest) r (a .judged))
+    ∙ accepted-storable (machineOfHeader (a .header)) behindHeader 2 (a .rest) r (a .judged)
