@@ -48,8 +48,7 @@ unfolding storable
 accepted-storable r last n [] r′ e = refl
 accepted-storable r last n (l ∷ ls) r′ e =
     let a = judge-accept r last n l ls r′ e in
-    and-iff _ _ .1
-    (
+    and-iff _ _ .1 (
       line-storable (r .fixed .size) (r .fixed .count) last l (a .0),
       rw (line-size r l) at (accepted-storable (withLine r l) (lastOf l) (n + 1) ls r′ (a .1)),
     )

@@ -1,9 +1,9 @@
 // The public calls, one step and the run. A record that is not well-formed, or memory that is lent too short, is refused;
 // then the record comes back and memory is left.
-use causes::Cause;
-use causes::Outcome;
 use crate::Answer;
 use crate::Machine;
+use causes::Cause;
+use causes::Outcome;
 use engine::steps::advance;
 ghost use Prim.Native.Nat.{_+_, _-_, _≤_};
 ghost use mathlib.Core.Path.{_≡_};

@@ -146,7 +146,14 @@ pub fn line_verdict(size: u32, count: u32, last: Last, line: Line) -> Outcome
     match line {
         Line::M(_, _, _, _, _, _) => Outcome::Refused(Cause::OutOfOrder),
         Line::G(pc, p, t) => gate_verdict(count, last, pc, p, t),
-        Line::R(k, label, value) => entry_verdict(Kind::RegisterLine, REGISTERS, last, k, label, value),
+        Line::R(k, label, value) => entry_verdict(
+            Kind::RegisterLine,
+            REGISTERS,
+            last,
+            k,
+            label,
+            value,
+        ),
         Line::W(k, label, value) => entry_verdict(Kind::WordLine, size, last, k, label, value),
         Line::Malformed => Outcome::Refused(Cause::MalformedLine),
     }
