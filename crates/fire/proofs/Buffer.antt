@@ -5,10 +5,13 @@ use Prim.Native.Nat.{ℕ, _≤_}
 use mathlib.Core.Path.{_≡_, refl}
 use mathlib.Core.List.{List, [], _∷_}
 use native.Mathlib.Omega.{arith}
-use lib.Dec.{eqb}
 use lib.ListN.{length, take, drop, length-append, length-replicate}
 use lib.Seq.{take-append-seam}
-use borrow.Author.Tests.{le-leb, eqb-true}
+use borrow.Author.Tests.{le-leb}
+use Rattle.causes.specs.declared.Cause.the-variants.{ShortMemory}
+use Rattle.causes.specs.declared.Outcome.the-variants.{Done, Refused}
+use Rattle.causes.specs.Causes.{numberOf, isDone}
+use Rattle.causes.proofs.Numbers.{is-done}
 use Rattle.model.specs.Record.{Bank, State}
 use Rattle.model.specs.Step.{run}
 use Rattle.model.specs.Load.{load}
@@ -17,7 +20,7 @@ use Rattle.model.specs.Program.{stateOfLoad, reply, Firing, fire, fireWhole, pr
 use Rattle.model.proofs.Truth.{choice}
 use Rattle.model.proofs.Step.{Ready}
 use Rattle.model.proofs.Run.{run-leaves}
-use Rattle.model.proofs.Load.{load-not-six}
+use Rattle.model.proofs.Load.{load-not-short}
 use Rattle.model.proofs.Program.{load-ready, run-load-ready}
 use Rattle.writer.proofs.Fields.{line-most}
 use Rattle.printer.proofs.Lines.{head-most, entries-most, listing-length}
@@ -39,7 +42,7 @@ ready-bound s r b =
     ))
 
 -- The listing after the run of an accepted text.
-run-bound : (text : List ℕ) (m : Bank) → load text m .number ≡ 0 → length (listing (run (stateOfLoad (load text m)))) ≤ 46438
+run-bound : (text : List ℕ) (m : Bank) → load text m .outcome ≡ Done → length (listing (run (stateOfLoad (load text m)))) ≤ 46438
 run-bound text m e =
     let s = stateOfLoad (load text m) in
     let f = run-leaves s (load-ready text m e) .fixed in
@@ -50,8 +53,8 @@ pub reply-bound : (text : List ℕ) (m : Bank) → length (reply (load text m)) 
 unfolding reply
 reply-bound text m =
     let a = load text m in
-    choice (λ (o : List ℕ). length o ≤ 46438) (eqb (a .number) 0) _ _ (λ e. run-bound text m (eqb-true (a .number) 0 e))
-    (λ e. omega (arith, line-most 88 (a .number ∷ a .line ∷ [])))
+    choice (λ (o : List ℕ). length o ≤ 46438) (isDone (a .outcome)) _ _ (λ e. run-bound text m (is-done (a .outcome) e))
+    (λ e. omega (arith, line-most 88 (numberOf (a .outcome) ∷ a .line ∷ [])))
 
 -- So an output of 65,536 bytes gets the reply whole.
 pub whole-reply : (text : List ℕ) (m : Bank) (out : List ℕ) → 65536 ≤ length out → fire text m out ≡ fireWhole text m out
@@ -67,8 +70,8 @@ whole-counts text m out f e =
     rw (e, take-append-seam o (drop (length o) out), length-append o (drop (length o) out)) (omega arith, refl)
 
 -- The program's memory is never too short for a text: its reply is never that of refusal 6.
-pub alone-not-six : (text : List ℕ) → load text programMemory .number ≡ 6 → ⊥
+pub alone-not-short : (text : List ℕ) → load text programMemory .outcome ≡ Refused ShortMemory → ⊥
 unfolding programMemory
-alone-not-six text =
-    load-not-six programMemory (rw (length-replicate {A = ℕ} 2048 0) (omega arith)) (rw (length-replicate {A = ℕ} 2048 0) (omega arith))
+alone-not-short text =
+    load-not-short programMemory (rw (length-replicate {A = ℕ} 2048 0) (omega arith)) (rw (length-replicate {A = ℕ} 2048 0) (omega arith))
     text

@@ -8,10 +8,13 @@ use mathlib.Core.Bool.{Bool, true, false, _&&_, cond}
 use mathlib.Core.List.{List, [], _∷_, _++_}
 use native.Mathlib.Nat.{lt-of-lt-of-le}
 use native.Mathlib.Omega.{arith}
-use lib.Dec.{leb, ltb, eqb}
+use lib.Dec.{ltb}
 use lib.ListN.{length, drop, getD, replicate, length-set, length-append, length-replicate, List·getD-append}
-use borrow.Author.Tests.{ltb-true, eqb-true}
+use borrow.Author.Tests.{ltb-true}
 use Rattle.labels.specs.Label.{lowest}
+use Rattle.causes.specs.declared.Outcome.the-variants.{Done}
+use Rattle.causes.specs.Causes.{isDone}
+use Rattle.causes.proofs.Numbers.{is-done}
 use Rattle.model.specs.declared.Control.{Control}
 use Rattle.model.specs.Record.{Bank, Machine, State, register, word, valueAt, labelAt, machineOf, stateOf}
 use Rattle.model.specs.Word.{Op, immediate, arithmetic, load as loadWord, store, branch, jump, readClock, setLabel, setPair, upcall, endUpcall, gateCall, gateReturn, halt}
@@ -20,18 +23,19 @@ use Rattle.model.specs.Step.{Fetched, failed, fetched, fetch, Decision, rest, s
 use Rattle.model.specs.Listing.{differs, entryLine, entryLines, endLine, line, listing}
 use Rattle.model.specs.declared.format.Line.{Line}
 use Rattle.model.specs.declared.format.Line.the-variants.{M, G, R, W, Malformed}
-use Rattle.model.specs.WellFormed.{isValid, lentWhole}
+use Rattle.model.specs.declared.judging.Header.{Header}
+use Rattle.model.specs.WellFormed.{lentWhole}
 use Rattle.model.specs.Text.{lines}
-use Rattle.model.specs.Load.{machineOfHeader, withEntry, headerInRange, entryInRange, Progress, Verdict, refuse, accept, judge, cleared, fill, Loading, refusal, settle, loadLines, load}
+use Rattle.model.specs.Load.{withEntry, headerTests, Verdict, refuse, accept, judgeHeader, judgeLines, judgeText, cleared, withWord, fill, Loading, settle, load}
 use Rattle.model.specs.Program.{stateOfLoad, reply}
-use Rattle.model.proofs.Truth.{either, and-iff, clash}
+use Rattle.model.proofs.Truth.{either, and-iff}
 use Rattle.model.proofs.Writes.{set-at, written-fixed}
 use Rattle.model.proofs.Legal.{LegalWrite, keeps, sets, marks}
 use Rattle.model.proofs.Step.{Ready, step-write, step-ready}
 use Rattle.model.proofs.Program.{load-ready}
-use Rattle.loader.specs.Load.{storable}
-use Rattle.answers.proofs.Ranges.{entry-range}
-use Rattle.loader.proofs.Judging.{acceptable}
+use Rattle.verdicts.proofs.Ranges.{entry-range}
+use Rattle.loader.specs.Load.{isStorable, storable}
+use Rattle.loader.proofs.Judging.{text-storable}
 
 -- Two memories agree below the size.
 record Agree (size : ℕ) (m n : Bank) : Type 0 where
@@ -234,27 +238,12 @@ listing-alike s t h =
 
 -- ---- a load
 
--- What a text gives in two memories: one number, line and record, and memories that agree below its size.
+-- What a text gives in two memories: one outcome, line and record, and memories that agree below its size.
 record LoadAlike (a b : Loading) : Type 0 where
-  number : a .number ≡ b .number
+  outcome : a .outcome ≡ b .outcome
   line : a .line ≡ b .line
   machine : a .machine ≡ b .machine
   memory : Agree (a .machine .fixed .size) (a .memory) (b .memory)
-
--- A choice by one test.
-choose : (t : Bool) {a b c d : Loading} → (t ≡ true → LoadAlike a c) → (t ≡ false → LoadAlike b d)
-    → LoadAlike (cond t a b) (cond t c d)
-choose true f g = f refl
-choose false f g = g refl
-
-refusal-alike : (number line : ℕ) (m n : Bank) → LoadAlike (refusal number line m) (refusal number line n)
-refusal-alike number line m n =
-    record {
-      number = refl;
-      line = refl;
-      machine = refl;
-      memory = record { values = λ k h. absurd (omega arith); labels = λ k h. absurd (omega arith) };
-    }
 
 -- Cleared memory.
 blank-same : (size v : ℕ) (xs ys : List ℕ) (k : ℕ) → k < size
@@ -276,18 +265,14 @@ entry-long : {size : ℕ} {m : Bank} (k l v : ℕ) → Long size m → Long size
 entry-long {size} {m} k l v h =
     record { values = rw (length-set (m .values) k v) (h .values); labels = rw (length-set (m .labels) k l) (h .labels) }
 
-fill-agree : (size : ℕ) (ls : List Line) (m n : Bank) → storable size ls ≡ true → Long size m → Long size n → Agree size m n
-    → Agree size (fill ls m) (fill ls n)
-unfolding storable fill
-fill-agree size [] m n e x y a = a
-fill-agree size (M b c d f g i ∷ ls) m n e x y a = fill-agree size ls m n e x y a
-fill-agree size (G pc p t ∷ ls) m n e x y a = fill-agree size ls m n e x y a
-fill-agree size (R k l v ∷ ls) m n e x y a = fill-agree size ls m n e x y a
-fill-agree size (W k l v ∷ ls) m n e x y a =
-    let q = and-iff (entryInRange size k l v) (storable size ls) .0 e in
-    let h = entry-range size k l v (q .0) .below in
-    fill-agree size ls (withEntry m k l v) (withEntry n k l v) (q .1) (entry-long k l v x) (entry-long k l v y)
-    (record {
+line-agree : (size : ℕ) (l : Line) (m n : Bank) → isStorable size l ≡ true → Long size m → Long size n → Agree size m n
+    → Agree size (withWord m l) (withWord n l)
+line-agree size (M b c d f g i) m n e x y a = a
+line-agree size (G pc p t) m n e x y a = a
+line-agree size (R k l v) m n e x y a = a
+line-agree size (W k l v) m n e x y a =
+    let h = entry-range size k l v e .below in
+    record {
       values = λ j g.
           rw (
             set-at (m .values) k j v (lt-of-lt-of-le h (x .values)),
@@ -300,18 +285,39 @@ fill-agree size (W k l v ∷ ls) m n e x y a =
             set-at (n .labels) k j l (lt-of-lt-of-le h (y .labels)),
             a .labels j g,
           );
-    })
-fill-agree size (Malformed ∷ ls) m n e x y a = clash refl (sym e)
+    }
+line-agree size Malformed m n e x y a = a
 
--- After the verdict on the lines.
+line-long : {size : ℕ} {m : Bank} (l : Line) → Long size m → Long size (withWord m l)
+line-long (M b c d f g i) h = h
+line-long (G pc p t) h = h
+line-long (R k l v) h = h
+line-long (W k l v) h = entry-long k l v h
+line-long Malformed h = h
+
+fill-agree : (size : ℕ) (ls : List Line) (m n : Bank) → storable size ls ≡ true → Long size m → Long size n → Agree size m n
+    → Agree size (fill ls m) (fill ls n)
+unfolding storable fill
+fill-agree size [] m n e x y a = a
+fill-agree size (l ∷ ls) m n e x y a =
+    let q = and-iff (isStorable size l) (storable size ls) .0 e in
+    fill-agree size ls (withWord m l) (withWord n l) (q .1) (line-long l x) (line-long l y) (line-agree size l m n (q .0) x y a)
+
+-- After the verdict on the text.
 settle-alike : (v : Verdict) (ls : List Line) (m n : Bank)
     → ((r : Machine) → v ≡ accept r → storable (r .fixed .size) ls ≡ true) → LoadAlike (settle v ls m) (settle v ls n)
 unfolding cleared
-settle-alike (refuse number line) ls m n f = refusal-alike number line m n
+settle-alike (refuse cause line) ls m n f =
+    record {
+      outcome = refl;
+      line = refl;
+      machine = refl;
+      memory = record { values = λ k h. absurd (omega arith); labels = λ k h. absurd (omega arith) };
+    }
 settle-alike (accept r) ls m n f =
     let size = r .fixed .size in
     record {
-      number = refl;
+      outcome = refl;
       line = refl;
       machine = refl;
       memory =
@@ -321,41 +327,35 @@ settle-alike (accept r) ls m n f =
           (record { values = blank-same size 0 (m .values) (n .values); labels = blank-same size lowest (m .labels) (n .labels) });
     }
 
--- The lines of an accepted text may be written.
-accepted-storable : (g : Progress) (k : ℕ) (ls : List Line) (r : Machine) → judge g k ls ≡ accept r
-    → storable (r .fixed .size) ls ≡ true
-accepted-storable g k ls r e = let a = acceptable g k ls r e in rw (a .size) (a .storable)
-
 module _ (m n : Bank) (e : length (m .values) ≡ length (n .values)) (f : length (m .labels) ≡ length (n .labels)) where
-  lines-alike : (ls : List Line) → LoadAlike (loadLines ls m) (loadLines ls n)
-  unfolding lentWhole
-  lines-alike [] = refusal-alike 2 1 m n
-  lines-alike (M size errorpc pc p t limit ∷ ls) =
-      let g : Progress = record { machine = machineOfHeader size errorpc pc p t limit; kind = 1; least = 0 } in
-      rw (e, f)
-      (choose (headerInRange size errorpc pc p t limit)
-      (λ h.
-      choose (isValid (record { pc = p; timing = t }))
-      (λ v.
-      choose (leb size (length (n .values)) && leb size (length (n .labels)))
-      (λ l. settle-alike (judge g 2 ls) ls m n (accepted-storable g 2 ls))
-      (λ l. refusal-alike 6 1 m n))
-      (λ v. refusal-alike 5 1 m n))
-      (λ h. refusal-alike 3 1 m n))
-  lines-alike (G a b c ∷ ls) = refusal-alike 2 1 m n
-  lines-alike (R a b c ∷ ls) = refusal-alike 2 1 m n
-  lines-alike (W a b c ∷ ls) = refusal-alike 2 1 m n
-  lines-alike (Malformed ∷ ls) = refusal-alike 2 1 m n
+  -- The tests of the M line read the lengths of the memory alone.
+  tests-same : (h : Header) → headerTests h m ≡ headerTests h n
+  unfolding headerTests lentWhole
+  tests-same h = rw (e, f)
+
+  lines-same : (ls : List Line) → judgeLines ls m ≡ judgeLines ls n
+  unfolding judgeHeader
+  lines-same [] = refl
+  lines-same (M size errorpc pc p t limit ∷ ls) =
+      rw (tests-same (record { size = size; errorpc = errorpc; pc = pc; p = p; t = t; limit = limit }))
+  lines-same (G a b c ∷ ls) = refl
+  lines-same (R a b c ∷ ls) = refl
+  lines-same (W a b c ∷ ls) = refl
+  lines-same (Malformed ∷ ls) = refl
+
+  -- So a text has one verdict.
+  verdict-same : (text : List ℕ) → judgeText text m ≡ judgeText text n
+  unfolding judgeText
+  verdict-same text = rw (lines-same (lines text))
 
   load-alike : (text : List ℕ) → LoadAlike (load text m) (load text n)
   unfolding load
-  load-alike text =
-      choose (leb 1 (length text) && leb (length text) 65535) (λ h. lines-alike (lines text)) (λ h. refusal-alike 1 0 m n)
+  load-alike text = rw (← verdict-same text) (settle-alike (judgeText text m) (lines text) m n (text-storable text m))
 
   -- ---- the reply
 
   -- An accepted text's listing.
-  run-same : (text : List ℕ) → load text m .number ≡ 0 → load text n .number ≡ 0
+  run-same : (text : List ℕ) → load text m .outcome ≡ Done → load text n .outcome ≡ Done
       → listing (run (stateOfLoad (load text m))) ≡ listing (run (stateOfLoad (load text n)))
   run-same text z u =
       let s = stateOfLoad (load text m) in
@@ -370,11 +370,11 @@ module _ (m n : Bank) (e : length (m .values) ≡ length (n .values)) (f : lengt
   same-reply text =
       let h = load-alike text in
       ⊎-elim
-      (λ (z : eqb (load text m .number) 0 ≡ true).
-      let i = eqb-true (load text m .number) 0 z in
-      let j = sym (h .number) ∙ i in
+      (λ (z : isDone (load text m .outcome) ≡ true).
+      let i = is-done (load text m .outcome) z in
+      let j = sym (h .outcome) ∙ i in
       rw (i, j) (run-same text i j))
-      (λ (z : eqb (load text m .number) 0 ≡ false).
-      let j = ap (λ (k : ℕ). eqb k 0) (sym (h .number)) ∙ z in
-      rw (z, j) (rw (h .number, h .line) refl))
-      (either (eqb (load text m .number) 0))
+      (λ (z : isDone (load text m .outcome) ≡ false).
+      let j = ap isDone (sym (h .outcome)) ∙ z in
+      rw (z, j) (rw (h .outcome, h .line) refl))
+      (either (isDone (load text m .outcome)))

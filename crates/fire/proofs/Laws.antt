@@ -1,13 +1,13 @@
 -- From what load, run, print and the line writer promise to what `fire` promises.
 -- Assumes nothing.
-use Prim.Native.Nat.{ℕ, _<_, _≤_}
+use Prim.Native.Nat.{ℕ}
 use mathlib.Core.Path.{_≡_, refl, sym, ap, _∙_}
 use mathlib.Core.Bool.{Bool, true, false, cond}
 use mathlib.Core.List.{List, [], _∷_, _++_}
-use native.Mathlib.Omega.{arith}
 use lib.Dec.{leb}
 use lib.ListN.{length, drop}
-use borrow.Author.Tests.{ne-eqb}
+use Rattle.causes.specs.declared.Outcome.the-variants.{Done}
+use Rattle.causes.specs.Causes.{numberOf, isDone}
 use Rattle.model.specs.Record.{Bank}
 use Rattle.model.specs.Step.{run}
 use Rattle.model.specs.Answer.{Answer, runAnswer}
@@ -38,26 +38,22 @@ unfolding over
 choice-wrote true o out m = refl
 choice-wrote false o out m = refl
 
-module _ (text : List ℕ) (m : Bank) (out : List ℕ) (a : Loading) {number : ℕ} (e : a ≡ load text m)
-    (n : number ≡ a .number)
-  where
-    -- A refused load: the line writer wrote its number and line.
-    pub refused-firing : {place : ℕ} (w : Writing) → 0 < number → place ≡ a .line
-        → w ≡ writing 88 (number ∷ place ∷ []) out → wrote w (a .memory) ≡ fire text m out
-    unfolding fire reply memoryAfter writing
-    refused-firing w h l f =
-        let o = line 88 (a .number ∷ a .line ∷ []) in
-        rw (f, l, n, ← e, ne-eqb (a .number) 0 (λ z. omega arith))
-        (choice-wrote (leb (length o) (length out)) o out (a .memory))
+module _ (text : List ℕ) (m : Bank) (out : List ℕ) (a : Loading) (e : a ≡ load text m) where
+  -- A refused load: the line writer wrote its number and line.
+  pub refused-firing : {number place : ℕ} (w : Writing) → isDone (a .outcome) ≡ false → number ≡ numberOf (a .outcome)
+      → place ≡ a .line → w ≡ writing 88 (number ∷ place ∷ []) out → wrote w (a .memory) ≡ fire text m out
+  unfolding fire reply memoryAfter writing
+  refused-firing w h n l f =
+      let o = line 88 (numberOf (a .outcome) ∷ a .line ∷ []) in
+      rw (f, l, n, ← e, h) (choice-wrote (leb (length o) (length out)) o out (a .memory))
 
-    -- An accepted load: its state was run, and the state after the run printed.
-    pub accepted-firing : (b : Answer) (p : Printing) → number ≤ 0 → b ≡ runAnswer (a .machine) (a .memory)
-        → p ≡ print (b .machine) (b .memory) out → printed p (b .memory) ≡ fire text m out
-    unfolding fire reply memoryAfter
-    accepted-firing b p h f g =
-        let y : a .number ≡ 0 = omega arith in
-        let z : load text m .number ≡ 0 = ap (λ (x : Loading). x .number) (sym e) ∙ y in
-        let s = stateOfLoad (load text m) in
-        let i = (rw e at f) ∙ run-done s (load-ready text m z) in
-        let j = (rw i at g) ∙ print-done (run s) out (run-load-ready text m z) in
-        rw (j, i, z) (choice-printed (leb (length (listing (run s))) (length out)) _ _ (run s .memory))
+  -- An accepted load: its state was run, and the state after the run printed.
+  pub accepted-firing : (b : Answer) (p : Printing) → a .outcome ≡ Done → b ≡ runAnswer (a .machine) (a .memory)
+      → p ≡ print (b .machine) (b .memory) out → printed p (b .memory) ≡ fire text m out
+  unfolding fire reply memoryAfter
+  accepted-firing b p y f g =
+      let z : load text m .outcome ≡ Done = ap (λ (x : Loading). x .outcome) (sym e) ∙ y in
+      let s = stateOfLoad (load text m) in
+      let i = (rw e at f) ∙ run-done s (load-ready text m z) in
+      let j = (rw i at g) ∙ print-done (run s) out (run-load-ready text m z) in
+      rw (j, i, z) (choice-printed (leb (length (listing (run s))) (length out)) _ _ (run s .memory))

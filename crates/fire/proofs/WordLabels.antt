@@ -7,24 +7,23 @@ use mathlib.Core.Bool.{true, _&&_}
 use mathlib.Core.List.{List, [], _∷_, _++_}
 use native.Mathlib.Nat.{lt-of-lt-of-le}
 use native.Mathlib.Omega.{arith}
-use lib.Dec.{leb, ltb, eqb}
+use lib.Dec.{ltb, eqb}
 use lib.ListN.{length, drop, getD, replicate, length-set, length-append, length-replicate, getD-replicate, List·getD-append}
 use Rattle.labels.specs.Label.{lowest}
 use Rattle.labels.proofs.Constants.{lowest-number}
 use Rattle.model.specs.declared.format.Line.{Line}
 use Rattle.model.specs.declared.format.Line.the-variants.{M, G, R, W, Malformed}
 use Rattle.model.specs.Record.{Bank, Machine, State, inUpcall}
-use Rattle.model.specs.WellFormed.{isValid, lentWhole}
 use Rattle.model.specs.Text.{lines}
 use Rattle.model.specs.Word.{Op, immediate, arithmetic, load as loadWord, store, branch, jump, readClock, setLabel, setPair, upcall, endUpcall, gateCall, gateReturn, halt}
 use Rattle.model.specs.Ops.{Write, Effect, does, ends, Row, table}
 use Rattle.model.specs.Step.{Fetched, failed, fetched, fetch, Decision, rest, spend, stall, close, carry, endTick, fault, passed, attempt, inTime, plan, beyondLimit, inLimit, running, decide, written, causeAllowed, causeWrite, changeWrite, writeOf, apply, step, steps, run}
-use Rattle.model.specs.Load.{machineOfHeader, withEntry, headerInRange, entryInRange, Progress, Verdict, refuse, accept, judge, cleared, fill, Loading, refusal, settle, loadLines, load}
-use Rattle.model.proofs.Truth.{choice, and-iff, clash}
+use Rattle.model.specs.Load.{Verdict, refuse, accept, judgeText, cleared, withWord, fill, Loading, settle, load}
+use Rattle.model.proofs.Truth.{choice, and-iff}
 use Rattle.model.proofs.Step.{below-set}
-use Rattle.loader.specs.Load.{storable}
-use Rattle.answers.proofs.Ranges.{entry-range}
-use Rattle.loader.proofs.Judging.{acceptable}
+use Rattle.verdicts.proofs.Ranges.{entry-range}
+use Rattle.loader.specs.Load.{isStorable, storable}
+use Rattle.loader.proofs.Judging.{text-storable}
 
 -- ---- a step
 
@@ -135,66 +134,40 @@ cleared-bytes size xs =
           (omega arith);
     }
 
--- The W lines of an accepted text set bytes.
+-- The words of lines that may be written are labelled with bytes.
 fill-bytes : (size : ℕ) (ls : List Line) (m : Bank) → storable size ls ≡ true → Bytes size (m .labels)
     → Bytes size (fill ls m .labels)
 unfolding storable fill
 fill-bytes size [] m e h = h
-fill-bytes size (M a b c d g f ∷ ls) m e h = fill-bytes size ls m e h
-fill-bytes size (G pc p t ∷ ls) m e h = fill-bytes size ls m e h
-fill-bytes size (R k l v ∷ ls) m e h = fill-bytes size ls m e h
-fill-bytes size (W k l v ∷ ls) m e h =
-    let q = and-iff (entryInRange size k l v) (storable size ls) .0 e in
-    let r = entry-range size k l v (q .0) in
-    fill-bytes size ls (withEntry m k l v) (q .1)
-    (record {
-      long = rw (length-set (m .labels) k l) (h .long);
-      below = λ j g. below-set (m .labels) k l j (lt-of-lt-of-le (r .below) (h .long)) (r .label) (h .below j g);
-    })
-fill-bytes size (Malformed ∷ ls) m e h = clash refl (sym e)
+fill-bytes size (l ∷ ls) m e h =
+    let q = and-iff (isStorable size l) (storable size ls) .0 e in
+    fill-bytes size ls (withWord m l) (q .1) (line-bytes size l m (q .0) h)
+  where
+    line-bytes : (size : ℕ) (l : Line) (m : Bank) → isStorable size l ≡ true → Bytes size (m .labels)
+        → Bytes size (withWord m l .labels)
+    line-bytes size (M a b c d g f) m e h = h
+    line-bytes size (G pc p t) m e h = h
+    line-bytes size (R k l v) m e h = h
+    line-bytes size (W k l v) m e h =
+        let r = entry-range size k l v e in
+        record {
+          long = rw (length-set (m .labels) k l) (h .long);
+          below = λ j g. below-set (m .labels) k l j (lt-of-lt-of-le (r .below) (h .long)) (r .label) (h .below j g);
+        }
+    line-bytes size Malformed m e h = h
 
 -- What a load leaves: bytes below the size of its record. A refusal's record has size 0.
 abbrev Loads : Loading → Type 0
 Loads a = Bytes (a .machine .fixed .size) (a .memory .labels)
 
-refusal-loads : (number line : ℕ) (m : Bank) → Loads (refusal number line m)
-refusal-loads number line m = record { long = zero-le; below = λ k h. absurd (omega arith) }
-
--- After the verdict on the lines.
-settle-loads : (v : Verdict) (ls : List Line) (m : Bank)
-    → ((r : Machine) → v ≡ accept r → Bytes (r .fixed .size) (fill ls (cleared (r .fixed .size) m) .labels))
+-- After the verdict on the text.
+settle-loads : (v : Verdict) (ls : List Line) (m : Bank) → ((r : Machine) → v ≡ accept r → storable (r .fixed .size) ls ≡ true)
     → Loads (settle v ls m)
-settle-loads (refuse number line) ls m f = refusal-loads number line m
-settle-loads (accept r) ls m f = f r refl
-
-accepted-loads : (g : Progress) (n : ℕ) (ls : List Line) (m : Bank) (r : Machine) → judge g n ls ≡ accept r
-    → Bytes (r .fixed .size) (fill ls (cleared (r .fixed .size) m) .labels)
 unfolding cleared
-accepted-loads g n ls m r e =
-    let a = acceptable g n ls r e in
-    let size = r .fixed .size in
-    fill-bytes size ls (cleared size m) (rw (a .size) (a .storable)) (cleared-bytes size (m .labels))
-
-lines-load : (ls : List Line) (m : Bank) → Loads (loadLines ls m)
-lines-load [] m = refusal-loads 2 1 m
-lines-load (M size errorpc pc p t limit ∷ ls) m =
-    let g : Progress = record { machine = machineOfHeader size errorpc pc p t limit; kind = 1; least = 0 } in
-    choice Loads (headerInRange size errorpc pc p t limit) _ _
-    (λ h.
-    choice Loads (isValid (record { pc = p; timing = t })) _ _
-    (λ v.
-    choice Loads (lentWhole (g .machine .fixed) (m .values) (m .labels)) _ _
-    (λ l. settle-loads (judge g 2 ls) ls m (accepted-loads g 2 ls m))
-    (λ l. refusal-loads 6 1 m))
-    (λ v. refusal-loads 5 1 m))
-    (λ h. refusal-loads 3 1 m)
-lines-load (G a b c ∷ ls) m = refusal-loads 2 1 m
-lines-load (R a b c ∷ ls) m = refusal-loads 2 1 m
-lines-load (W a b c ∷ ls) m = refusal-loads 2 1 m
-lines-load (Malformed ∷ ls) m = refusal-loads 2 1 m
+settle-loads (refuse cause line) ls m f = record { long = zero-le; below = λ k h. absurd (omega arith) }
+settle-loads (accept r) ls m f =
+    let size = r .fixed .size in fill-bytes size ls (cleared size m) (f r refl) (cleared-bytes size (m .labels))
 
 pub load-bytes : (text : List ℕ) (m : Bank) → Loads (load text m)
 unfolding load
-load-bytes text m =
-    choice Loads (leb 1 (length text) && leb (length text) 65535) _ _ (λ h. lines-load (lines text) m)
-    (λ h. refusal-loads 1 0 m)
+load-bytes text m = settle-loads (judgeText text m) (lines text) m (text-storable text m)

@@ -1,5 +1,6 @@
 // Firing a text: it is loaded into lent memory, run to its end, and its listing is written into lent output. A text that
 // is refused gets the line `X,number,line` instead.
+use causes::Outcome;
 use loader::load;
 use printer::print;
 use writer::write_line;
@@ -25,18 +26,17 @@ pub fn fire(text: &[u8], words: &mut [u32], labels: &mut [u8], out: &mut [u8]) -
     ensures { λ r. ⌜ fired r (now (out .exit)) (now (words .exit)) (now (labels .exit)) ≡ fire (now (text .entry)) (lent (now (words .entry)) (now (labels .entry))) (now (out .entry)) ⌝ }
 {
     let loaded = load(text, words, labels);
-    let verdict = loaded.verdict;
-    let number = verdict.number() as u64;
-    let line = loaded.line as u64;
-    if 0 < number {
+    let outcome = loaded.outcome;
+    let Outcome::Done = outcome else {
+        let number = outcome.number() as u64;
+        let line = loaded.line as u64;
         return write_line(out, X, &[number, line]);
-    }
+    };
     let machine = loaded.machine;
     let answer = machine.run(words, labels);
     let last = answer.machine;
     let printed = print(last, words, labels, out);
-    let outcome = printed.outcome;
-    outcome.bytes()
+    printed.bytes
 }
 
 // Fires a text in a memory that has room for every machine and into an output that has room for every reply, and gives

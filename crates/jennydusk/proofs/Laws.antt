@@ -1,23 +1,19 @@
 -- From what the functions below promise to what the calls promise.
 -- Assumes nothing.
 use Prim.Native.Nat.{ℕ, _^_, _≤_}
-use native.Mathlib.Omega.{arith}
 use mathlib.Core.Path.{_≡_, refl, ap, _∙_}
 use mathlib.Core.Bool.{Bool, true, false}
 use mathlib.Core.List.{List}
+use Rattle.causes.specs.Causes.{numberOf}
 use Rattle.model.specs.Record.{Bank, Machine}
 use Rattle.model.specs.Answer as model
 use Rattle.model.specs.Load as loading
 use Rattle.model.specs.Listing as listing
 use Rattle.model.proofs.Truth.{clash}
 use Rattle.machine.specs.declared.Answer as struct
-use Rattle.machine.specs.Answered.{recordOf, numberOf, answered}
+use Rattle.machine.specs.Answered.{recordOf, answered}
 use Rattle.loader.specs.declared.Loaded.{Loaded}
 use Rattle.printer.specs.declared.Printed.{Printed}
-use Rattle.answers.specs.declared.print.Outcome.{Outcome}
-use Rattle.answers.specs.declared.print.Outcome.the-variants.{Written, IllFormed, ShortMemory, ShortOutput}
-use Rattle.answers.specs.Load as loads
-use Rattle.answers.specs.Print as prints
 use Rattle.loader.specs.Load as load
 use Rattle.printer.specs.Printing as print
 use Rattle.decoder.specs.declared.Reading.{Reading}
@@ -60,7 +56,7 @@ module _ (f : Machine → Bank → model.Answer) (b : List ℕ) (m : Bank) (x : 
   pub was-called :
       (h : Holding) (a : struct.Answer) {number : ℕ} {buffer words labels : List ℕ} → readOf x ≡ given h
       → x .found ≡ found.Record → answered a words labels ≡ f (recordOf (x .machine)) m → number ≡ numberOf (a .outcome)
-      → buffer ≡ kept number (recordOf (a .machine)) b → left number buffer words labels ≡ called f h b m
+      → buffer ≡ kept (a .outcome) (recordOf (a .machine)) b → left number buffer words labels ≡ called f h b m
   was-called (holds r) a {number} {buffer} {words} {labels} e n s c k =
       rw (k, c) (ap (λ (z : model.Answer). afterAnswer z b) (s ∙ ap (λ (y : Machine). f y m) (same-record x e)))
   was-called nothing a e n s c k = some-record x e n
@@ -70,23 +66,17 @@ module _ (f : Machine → Bank → model.Answer) (b : List ℕ) (m : Bank) (x : 
 -- A buffer that is long enough.
 pub was-loaded :
     (text : List ℕ) (m : Bank) (b : List ℕ) (a : Loaded) {number line answer : ℕ} {buffer words labels : List ℕ}
-    → load.loadingOf a words labels ≡ loading.load text m → number ≡ loads.numberOf (a .verdict) → line ≡ a .line
-    → buffer ≡ kept number (recordOf (a .machine)) b → answer ≡ counted number line
+    → load.loadingOf a words labels ≡ loading.load text m → number ≡ numberOf (a .outcome) → line ≡ a .line
+    → buffer ≡ kept (a .outcome) (recordOf (a .machine)) b → answer ≡ counted number line
     → left answer buffer words labels ≡ afterLoading (loading.load text m) b
 was-loaded text m b a e n l k c = rw (k, c, n, l) (ap (λ (z : loading.Loading). afterLoading z b) e)
 
 -- ---- print
 
--- The numbers and the lengths that print answers fit an answer.
-pub small-number : (o : Outcome) → prints.numberOf o ≤ 255
-small-number (Written n) = omega arith
-small-number IllFormed = omega arith
-small-number ShortMemory = omega arith
-small-number ShortOutput = omega arith
-
+-- The lengths that print answers fit an answer.
 pub small-length :
     (r : Machine) (m : Bank) (before : List ℕ) (a : Printed) (after : List ℕ)
-    → print.printingOf a after ≡ listing.print r m before → prints.lengthOf (a .outcome) ≤ 2 ^ 32
+    → print.printingOf a after ≡ listing.print r m before → a .bytes ≤ 2 ^ 32
 small-length r m before a after e = rw (ap (λ (z : listing.Printing). z .bytes) e) (bytes-most r m before)
 
 module _ (m : Bank) (before : List ℕ) (x : Reading) where
@@ -98,8 +88,8 @@ module _ (m : Bank) (before : List ℕ) (x : Reading) where
   -- A buffer that holds one.
   pub was-printed :
       (h : Holding) (a : Printed) {number length answer : ℕ} {after : List ℕ} → readOf x ≡ given h → x .found ≡ found.Record
-      → print.printingOf a after ≡ listing.print (recordOf (x .machine)) m before → number ≡ prints.numberOf (a .outcome)
-      → length ≡ prints.lengthOf (a .outcome) → answer ≡ counted number length → shown answer after ≡ printed h m before
+      → print.printingOf a after ≡ listing.print (recordOf (x .machine)) m before → number ≡ numberOf (a .outcome)
+      → length ≡ a .bytes → answer ≡ counted number length → shown answer after ≡ printed h m before
   was-printed (holds r) a e n s k l c =
       rw (c, k, l)
       (ap afterPrinting (s ∙ ap (λ (y : Machine). listing.print y m before) (same-record x e)))

@@ -5,8 +5,12 @@
 use Prim.Native.Nat.{ℕ, _+_, _*_}
 use mathlib.Core.Bool.{Bool, true, false, cond}
 use mathlib.Core.List.{List}
-use lib.Dec.{ltb, eqb}
+use lib.Dec.{ltb}
 use lib.ListN.{length}
+use Rattle.causes.specs.declared.Cause.the-variants.{IllFormed}
+use Rattle.causes.specs.declared.Outcome.{Outcome}
+use Rattle.causes.specs.declared.Outcome.the-variants.{Done, Refused}
+use Rattle.causes.specs.Causes.{numberOf}
 use Rattle.model.specs.Record.{Bank, Machine}
 use Rattle.model.specs.Answer.{Answer, stepAnswer, runAnswer}
 use Rattle.model.specs.Load.{Loading, load}
@@ -17,13 +21,9 @@ use Rattle.decoder.specs.Held.{Holding, holds, nothing, machineIn}
 
 -- ---- numbers
 
--- Nothing was refused.
-abbrev pub done : ℕ
-done = 0
-
 -- A buffer that is long enough holds no record. It is refused as a record that is not well-formed.
 abbrev pub noRecord : ℕ
-noRecord = 7
+noRecord = numberOf (Refused IllFormed)
 
 -- A record's buffer is shorter than a record. The table has no such number.
 abbrev pub shortBuffer : ℕ
@@ -64,13 +64,15 @@ left answer buffer words labels =
 abbrev pub untouched : List ℕ → Bank → ℕ → Left
 untouched b m answer = record { answer = answer; buffer = b; memory = m }
 
--- The buffer after a call with this number: the record is written, unless the call was refused.
-unfoldable pub kept : ℕ → Machine → List ℕ → List ℕ
-kept number r b = cond (eqb number done) (write r b .buffer) b
+-- The buffer after a call with this outcome: the record is written, unless the call was refused.
+abbrev pub kept : Outcome → Machine → List ℕ → List ℕ
+kept Done r b = write r b .buffer
+kept (Refused cause) r b = b
 
 -- After the answer of step or run.
 abbrev pub afterAnswer : Answer → List ℕ → Left
-afterAnswer a b = record { answer = a .number; buffer = kept (a .number) (a .machine) b; memory = a .memory }
+afterAnswer a b =
+    record { answer = numberOf (a .outcome); buffer = kept (a .outcome) (a .machine) b; memory = a .memory }
 
 -- Step or run of what a buffer holds.
 abbrev pub called : (Machine → Bank → Answer) → Holding → List ℕ → Bank → Left
@@ -92,7 +94,11 @@ runCall b m = recordCall runAnswer b m
 -- After the answer of load: its number and line.
 abbrev pub afterLoading : Loading → List ℕ → Left
 afterLoading a b =
-    record { answer = counted (a .number) (a .line); buffer = kept (a .number) (a .machine) b; memory = a .memory }
+    record {
+      answer = counted (numberOf (a .outcome)) (a .line);
+      buffer = kept (a .outcome) (a .machine) b;
+      memory = a .memory;
+    }
 
 -- jennydusk_load.
 unfoldable pub loadCall : List ℕ → Bank → List ℕ → Left
@@ -111,7 +117,7 @@ shown answer output = record { answer = answer; output = output }
 
 -- After the answer of print: its number and the listing's length.
 abbrev pub afterPrinting : Printing → Shown
-afterPrinting a = shown (counted (a .number) (a .bytes)) (a .output)
+afterPrinting a = shown (counted (numberOf (a .outcome)) (a .bytes)) (a .output)
 
 -- The output is left.
 abbrev pub unwritten : List ℕ → ℕ → Shown

@@ -1,28 +1,21 @@
 // The machine for programs in other languages: load, step, run and print over buffers that the caller lends. A record
 // stands in a buffer of 64-bit words, as the crates encoder and decoder have it. Nothing is kept between calls. The
 // module label_calls has the label rules for them.
+use causes::Cause;
+use causes::Outcome;
 use decoder::Found;
 use loader::load;
 use machine::Answer;
 use machine::Machine;
-use machine::Outcome;
 use printer::print;
 ghost use Prim.Native.Nat.{_≤_, _^_};
 ghost use mathlib.Core.Path.{_≡_};
-ghost use Rattle.machine.specs.Answered.{recordOf, numberOf, answered, lent};
-ghost use Rattle.jennydusk.specs.Calls.{isShort, left, kept, counted, recordCall, shown, loadCall, stepCall, runCall, printCall, stepOrRun};
+ghost use Rattle.machine.specs.Answered.{recordOf, answered, lent};
+ghost use Rattle.jennydusk.specs.Calls.{isShort, noRecord, left, kept, counted, recordCall, shown, loadCall, stepCall, runCall, printCall, stepOrRun};
 
 mod label_calls;
 
-// The numbers of answers that are given here. A call was carried out.
-const DONE: u64 = 0;
-// Lent words or labels are shorter than the size.
-const SHORT_MEMORY: u64 = 6;
-// The record is not well-formed.
-const ILL_FORMED: u64 = 7;
-// The buffer holds no record.
-const NO_RECORD: u64 = ILL_FORMED;
-// The buffer is shorter than a record.
+// The answer where the buffer is shorter than a record.
 const SHORT_BUFFER: u64 = 255;
 
 // A number is below this one; a line or a length stands above it.
@@ -35,22 +28,18 @@ fn is_short(record: &[u64]) -> bool
     record.len() < encoder::SPAN
 }
 
-// The number of an outcome.
-fn number_of(outcome: Outcome) -> u64
-    ensures { λ r. ⌜ r ≡ numberOf outcome ⌝ }
+// The answer where the buffer holds no record: that of a record that is not well-formed.
+fn no_record() -> u64
+    ensures { λ r. ⌜ r ≡ noRecord ⌝ }
 {
-    match outcome {
-        Outcome::Done => DONE,
-        Outcome::IllFormed => ILL_FORMED,
-        Outcome::ShortMemory => SHORT_MEMORY,
-    }
+    Outcome::Refused(Cause::IllFormed).number() as u64
 }
 
-// Writes the record, unless the call with this number was refused.
-fn keep(number: u64, machine: Machine, record: &mut [u64])
-    ensures { λ r. ⌜ now («record» .exit) ≡ kept number (recordOf machine) (now («record» .entry)) ⌝ }
+// Writes the record, unless the call with this outcome was refused.
+fn keep(outcome: Outcome, machine: Machine, record: &mut [u64])
+    ensures { λ r. ⌜ now («record» .exit) ≡ kept outcome (recordOf machine) (now («record» .entry)) ⌝ }
 {
-    if number == DONE {
+    if let Outcome::Done = outcome {
         encoder::write(machine, record);
     }
 }
@@ -77,11 +66,11 @@ pub extern "C" fn jennydusk_load(
         return SHORT_BUFFER;
     }
     let loaded = load(text, words, labels);
-    let verdict = loaded.verdict;
+    let outcome = loaded.outcome;
     let machine = loaded.machine;
-    let number = verdict.number() as u64;
+    let number = outcome.number() as u64;
     let line = loaded.line as u64;
-    keep(number, machine, record);
+    keep(outcome, machine, record);
     counted(number, line)
 }
 
@@ -105,15 +94,14 @@ fn advanced(once: bool, record: &mut [u64], words: &mut [u32], labels: &mut [u8]
     let reading = decoder::read(record);
     let found = reading.found;
     if let Found::Nothing = found {
-        return NO_RECORD;
+        return no_record();
     }
     let machine = reading.machine;
     let answer = step_or_run(once, machine, words, labels);
     let outcome = answer.outcome;
     let next = answer.machine;
-    let number = number_of(outcome);
-    keep(number, next, record);
-    number
+    keep(outcome, next, record);
+    outcome.number() as u64
 }
 
 // One step of the record.
@@ -148,12 +136,12 @@ pub extern "C" fn jennydusk_print(
     let reading = decoder::read(record);
     let found = reading.found;
     if let Found::Nothing = found {
-        return NO_RECORD;
+        return no_record();
     }
     let machine = reading.machine;
     let printed = print(machine, words, labels, out);
     let outcome = printed.outcome;
     let number = outcome.number() as u64;
-    let bytes = outcome.bytes() as u64;
+    let bytes = printed.bytes as u64;
     counted(number, bytes)
 }

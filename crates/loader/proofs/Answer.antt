@@ -1,69 +1,82 @@
--- The answer of load, cause by cause in their order, and for an accepted text.
+-- The answer of load, refusal by refusal in their order, and for an accepted text.
 -- Assumes nothing.
-use Prim.Native.Nat.{ℕ, _≤_, _<_}
+use Prim.Native.Nat.{ℕ, _≤_}
 use mathlib.Core.Path.{_≡_, refl, sym, ap, _∙_}
-use mathlib.Core.Bool.{Bool, true, false, not, _&&_, cond}
-use mathlib.Core.List.{List, [], _∷_}
-use native.Mathlib.Omega.{arith}
-use borrow.Author.Tests.{leb-true, ne-eqb, not-true, not-false}
+use mathlib.Core.Bool.{true, false, _&&_}
+use mathlib.Core.List.{List, _∷_}
+use borrow.Author.Tests.{leb-true}
 use lib.Dec.{leb}
 use lib.ListN.{length, drop}
-use Rattle.labels.specs.Label.{validPair}
+use Rattle.causes.specs.declared.Cause.{Cause}
+use Rattle.causes.specs.declared.Cause.the-variants.{TextLength, MalformedLine}
+use Rattle.causes.specs.declared.Outcome.{Outcome}
+use Rattle.causes.specs.declared.Outcome.the-variants.{Done, Refused}
+use Rattle.causes.specs.Tests.{firstRefusal}
+use Rattle.causes.proofs.Order.{all-pass}
 use Rattle.model.specs.declared.format.Line.{Line}
 use Rattle.model.specs.declared.format.Line.the-variants.{M, G, R, W, Malformed}
 use Rattle.model.specs.declared.format.Read.{Read}
+use Rattle.model.specs.declared.judging.Header.{Header}
 use Rattle.model.specs.Record.{Bank, Machine}
 use Rattle.model.specs.WellFormed.{lentWhole}
 use Rattle.model.specs.Text.{readLine, onwards, lines}
-use Rattle.model.specs.Load.{Loading, refuse, judge, fill, cleared, headerInRange, machineOfHeader, noMachine, refusal, settle, loadLines, load}
+use Rattle.model.specs.Load.{machineOfHeader, headerInRange, headerTests, behindHeader, Verdict, refuse, accept, tried, judge, judgeHeader, judgeLines, judgeText, fill, cleared, noMachine, settle, load}
 use Rattle.model.proofs.Truth.{and-iff}
+use Rattle.model.proofs.Load.{judge-size}
 use Rattle.machine.specs.Answered.{recordOf}
-use Rattle.answers.specs.declared.load.Verdict.{Verdict}
-use Rattle.answers.specs.Load.{numberOf, headerNumber}
-use Rattle.answers.proofs.Causes.{NoCause}
 use Rattle.loader.specs.declared.Loaded.{Loaded}
 use Rattle.loader.specs.Load.{bank, loadingOf, verdictOf, storable}
 use Rattle.loader.proofs.Lines.{lines-first}
-use Rattle.loader.proofs.Judging.{Acceptable, acceptable}
+use Rattle.loader.proofs.Judging.{accepted-storable}
 
--- A struct that refuses is a refusal.
-pub refused-loading : (r : Loaded) (v : Verdict) (line : ℕ) (w l : List ℕ) (a : Loading)
-    → (r .verdict ≡ v) × (r .line ≡ line) × (recordOf (r .machine) ≡ noMachine) → a ≡ refusal (numberOf v) line (bank w l)
-    → loadingOf r w l ≡ a
-refused-loading r v line w l a h e = rw (h .0, h .1, h .2) (sym e)
+-- ---- a struct that refuses
 
--- Such a struct is the verdict of the first pass.
-pub refused-verdict : (r : Loaded) (v : Verdict) (line : ℕ)
-    → (r .verdict ≡ v) × (r .line ≡ line) × (recordOf (r .machine) ≡ noMachine) → 0 < numberOf v
-    → verdictOf r ≡ refuse (numberOf v) line
-refused-verdict r v line h z = rw (h .0, h .1, ne-eqb (numberOf v) 0 (λ e. omega arith))
+-- What the code's refusal is.
+abbrev IsRefusal : Loaded → Cause → ℕ → Type 0
+IsRefusal r c n = (r .outcome ≡ Refused c) × (r .line ≡ n) × (recordOf (r .machine) ≡ noMachine)
+
+-- It is the answer where the text is refused so.
+pub refused-loading : (r : Loaded) (c : Cause) (n : ℕ) (text w l : List ℕ) → IsRefusal r c n
+    → judgeText text (bank w l) ≡ refuse c n → loadingOf r w l ≡ load text (bank w l)
+unfolding load
+refused-loading r c n text w l h e = rw (h .0, h .1, h .2, e)
+
+-- And the verdict of the first pass.
+pub refused-verdict : (r : Loaded) (c : Cause) (n : ℕ) → IsRefusal r c n → verdictOf r ≡ refuse c n
+refused-verdict r c n h = rw (h .0, h .1)
 
 -- ---- text and first line
 
 -- The text is empty or too long.
-pub load-1 : (text : List ℕ) (m : Bank) → (leb 1 (length text) && leb (length text) 65535) ≡ false
-    → load text m ≡ refusal 1 0 m
-unfolding load
-load-1 text m e = rw e
-
--- A text that isn't too long.
-pub not-long : (text : List ℕ) → (leb 1 (length text) && leb (length text) 65535) ≡ true → length text ≤ 65535
-not-long text h = leb-true _ _ (and-iff (leb 1 (length text)) (leb (length text) 65535) .0 h .1)
+pub text-length : (text : List ℕ) (m : Bank) → (leb 1 (length text) && leb (length text) 65535) ≡ false
+    → judgeText text m ≡ refuse TextLength 0
+unfolding judgeText
+text-length text m e = rw e
 
 -- The first line was read.
-load-first : (text : List ℕ) (m : Bank) (r : Read) → (leb 1 (length text) && leb (length text) 65535) ≡ true
-    → r ≡ readLine text → load text m ≡ loadLines (onwards (r .line) (lines (drop (r .next) text))) m
-unfolding load
-load-first text m r h e =
-    let b = and-iff (leb 1 (length text)) (leb (length text) 65535) .0 h in
-    let q : lines text ≡ onwards (r .line) (lines (drop (r .next) text)) =
-    lines-first text (leb-true _ _ (b .0))
-    ∙ ap (λ (x : Read). onwards (x .line) (lines (drop (x .next) text))) (sym e) in
-    rw (h, q)
+pub record Begun (text : List ℕ) (x : Read) : Type 0 where
+  pub whole : (leb 1 (length text) && leb (length text) 65535) ≡ true
+  pub reads : x ≡ readLine text
+
+-- So the text isn't too long.
+pub not-long : {text : List ℕ} {x : Read} → Begun text x → length text ≤ 65535
+not-long {text} b = leb-true _ _ (and-iff (leb 1 (length text)) (leb (length text) 65535) .0 (b .whole) .1)
+
+module _ (text : List ℕ) (x : Read) (b : Begun text x) where
+  -- The lines of the text.
+  begun-lines : lines text ≡ onwards (x .line) (lines (drop (x .next) text))
+  begun-lines =
+      lines-first text (leb-true _ _ (and-iff (leb 1 (length text)) (leb (length text) 65535) .0 (b .whole) .0))
+      ∙ ap (λ (z : Read). onwards (z .line) (lines (drop (z .next) text))) (sym (b .reads))
+
+  -- They are judged.
+  begun-judged : (m : Bank) → judgeText text m ≡ judgeLines (onwards (x .line) (lines (drop (x .next) text))) m
+  unfolding judgeText
+  begun-judged m = rw (b .whole, begun-lines)
 
 -- A first line that isn't an M line.
 first-other : (line : Line) (ls : List Line) (m : Bank)
-    → ((a b c d e f : ℕ) → line ≡ M a b c d e f → ⊥) → loadLines (onwards line ls) m ≡ refusal 2 1 m
+    → ((a b c d e f : ℕ) → line ≡ M a b c d e f → ⊥) → judgeLines (onwards line ls) m ≡ refuse MalformedLine 1
 first-other (M a b c d e f) ls m h = absurd (h a b c d e f refl)
 first-other (G a b c) ls m h = refl
 first-other (R a b c) ls m h = refl
@@ -71,93 +84,82 @@ first-other (W a b c) ls m h = refl
 first-other Malformed ls m h = refl
 
 -- The first line isn't an M line.
-pub load-2 : (text : List ℕ) (m : Bank) (r : Read) → (leb 1 (length text) && leb (length text) 65535) ≡ true
-    → r ≡ readLine text → ((a b c d e f : ℕ) → r .line ≡ M a b c d e f → ⊥) → load text m ≡ refusal 2 1 m
-load-2 text m r h e g = load-first text m r h e ∙ first-other (r .line) (lines (drop (r .next) text)) m g
-
--- The first line is an M line with these numbers.
-pub record Header (text : List ℕ) (r : Read) (size errorpc pc p t limit : ℕ) : Type 0 where
-  pub whole : (leb 1 (length text) && leb (length text) 65535) ≡ true
-  pub reads : r ≡ readLine text
-  pub line : r .line ≡ M size errorpc pc p t limit
-
--- The M line that was read.
-pub header-of : (text : List ℕ) (r : Read) (size errorpc pc p t limit : ℕ)
-    → (leb 1 (length text) && leb (length text) 65535) ≡ true → r ≡ readLine text → r .line ≡ M size errorpc pc p t limit
-    → Header text r size errorpc pc p t limit
-header-of text r size errorpc pc p t limit whole reads line = record { whole = whole; reads = reads; line = line }
+pub text-other : (text : List ℕ) (m : Bank) (x : Read) → Begun text x
+    → ((a b c d e f : ℕ) → x .line ≡ M a b c d e f → ⊥) → judgeText text m ≡ refuse MalformedLine 1
+text-other text m x b g = begun-judged text x b m ∙ first-other (x .line) (lines (drop (x .next) text)) m g
 
 -- ---- behind an M line
 
--- The answer, by the first cause that holds.
-header-cause : (a b c : Bool) (more : Loading) (m : Bank) (code : ℕ) → code ≡ headerNumber a b c → 0 < code
-    → cond a (cond b (cond c more (refusal 6 1 m)) (refusal 5 1 m)) (refusal 3 1 m) ≡ refusal code 1 m
-unfolding headerNumber
-header-cause true true true more m code e z = absurd (omega arith)
-header-cause true true false more m code e z = rw e
-header-cause true false c more m code e z = rw e
-header-cause false b c more m code e z = rw e
+-- The first line is an M line with these numbers, and its tests have this outcome.
+pub record Headed (text w l : List ℕ) (x : Read) (h : Header) (o : Outcome) : Type 0 where
+  pub begun : Begun text x
+  pub line : x .line ≡ M (h .size) (h .errorpc) (h .pc) (h .p) (h .t) (h .limit)
+  pub tests : o ≡ firstRefusal (headerTests h (bank w l))
 
-module _ (text w l : List ℕ) (r : Read) (size errorpc pc p t limit : ℕ) (h : Header text r size errorpc pc p t limit) where
-  -- Behind the M line are the lines of the rest.
-  load-M : load text (bank w l) ≡ loadLines (M size errorpc pc p t limit ∷ lines (drop (r .next) text)) (bank w l)
-  load-M =
-      load-first text (bank w l) r (h .whole) (h .reads)
-      ∙ ap (λ (x : Line). loadLines (onwards x (lines (drop (r .next) text))) (bank w l)) (h .line)
+module _ {text w l : List ℕ} {x : Read} {h : Header} {o : Outcome} (d : Headed text w l x h o) where
+  -- The lines behind it.
+  abbrev behind : List Line
+  behind = lines (drop (x .next) text)
+
+  -- The verdict goes by the outcome.
+  header-judged : judgeText text (bank w l) ≡ tried o 1 (judge (machineOfHeader h) behindHeader 2 behind)
+  unfolding judgeHeader
+  header-judged =
+      begun-judged text x (d .begun) (bank w l)
+      ∙ ap (λ (z : Line). judgeLines (onwards z behind) (bank w l)) (d .line)
+      ∙ ap (λ (z : Outcome). tried z 1 (judge (machineOfHeader h) behindHeader 2 behind)) (sym (d .tests))
 
   -- The line is refused: 3, 5 or 6.
-  pub load-header : (code : ℕ)
-      → code
-      ≡ headerNumber (headerInRange size errorpc pc p t limit) (validPair p t) (leb size (length w) && leb size (length l))
-      → 0 < code → load text (bank w l) ≡ refusal code 1 (bank w l)
-  unfolding lentWhole
-  load-header code e z =
-      load-M
-      ∙ header-cause (headerInRange size errorpc pc p t limit) (validPair p t) (leb size (length w) && leb size (length l)) _
-      (bank w l) code e z
+  pub header-refused : (c : Cause) → o ≡ Refused c → judgeText text (bank w l) ≡ refuse c 1
+  header-refused c e = rw e at header-judged
 
-  module _ (c : NoCause (headerInRange size errorpc pc p t limit) (validPair p t) (leb size (length w) && leb size (length l)))
-      (m : Machine) (q : m ≡ machineOfHeader size errorpc pc p t limit) (j : Loaded)
-      (e : verdictOf j ≡ judge (record { machine = m; kind = 1; least = 0 }) 2 (lines (drop (r .next) text))) where
-    -- The verdict of the first pass.
-    judged : judge (record { machine = machineOfHeader size errorpc pc p t limit; kind = 1; least = 0 }) 2
-        (lines (drop (r .next) text))
-        ≡ verdictOf j
-    judged =
-        ap (λ (x : Machine). judge (record { machine = x; kind = 1; least = 0 }) 2 (lines (drop (r .next) text))) (sym q)
-        ∙ sym e
+  module _ (e : o ≡ Done) where
+    -- Its tests pass.
+    pub header-in-range : headerInRange h ≡ true
+    unfolding headerTests
+    header-in-range = all-pass (headerTests h (bank w l)) (sym (d .tests) ∙ e) .0
 
-    -- The answer goes by that verdict.
-    load-settles : load text (bank w l) ≡ settle (verdictOf j) (lines (drop (r .next) text)) (bank w l)
-    unfolding lentWhole
-    load-settles = load-M ∙ rw (c .range, c .valid, c .lent, judged)
+    header-lent : (leb (h .size) (length w) && leb (h .size) (length l)) ≡ true
+    unfolding headerTests lentWhole
+    header-lent = all-pass (headerTests h (bank w l)) (sym (d .tests) ∙ e) .1 .1 .0
 
-    -- A line behind the first is refused.
-    pub load-refused : 0 < numberOf (j .verdict)
-        → load text (bank w l) ≡ refusal (numberOf (j .verdict)) (j .line) (bank w l)
-    load-refused z = load-settles ∙ rw (ne-eqb (numberOf (j .verdict)) 0 (λ e. omega arith))
+    -- The verdict is that of the first pass.
+    module _ (r : Machine) (q : r ≡ machineOfHeader h) (j : Loaded) (f : verdictOf j ≡ judge r behindHeader 2 behind) where
+      first-pass : judge (machineOfHeader h) behindHeader 2 behind ≡ verdictOf j
+      first-pass = ap (λ (z : Machine). judge z behindHeader 2 behind) (sym q) ∙ sym f
 
-    module _ (z : numberOf (j .verdict) ≤ 0) where
-      -- The text is accepted.
-      accepted : numberOf (j .verdict) ≡ 0
-      accepted = omega arith
+      text-judged : judgeText text (bank w l) ≡ verdictOf j
+      text-judged = (rw e at header-judged) ∙ first-pass
 
-      -- What the accepted text says.
-      accepts : Acceptable (record { machine = machineOfHeader size errorpc pc p t limit; kind = 1; least = 0 })
-          (lines (drop (r .next) text))
-          (recordOf (j .machine))
-      accepts = acceptable _ 2 (lines (drop (r .next) text)) (recordOf (j .machine)) (judged ∙ rw accepted)
+      -- A line behind the first is refused.
+      pub line-refused : (c : Cause) → j .outcome ≡ Refused c → judgeText text (bank w l) ≡ refuse c (j .line)
+      line-refused c z = text-judged ∙ rw z
 
-      -- What the second pass asks.
-      pub load-lent : (size ≤ length w) × (size ≤ length l)
-      load-lent =
-          let b = and-iff (leb size (length w)) (leb size (length l)) .0 (c .lent) in
-          (leb-true _ _ (b .0), leb-true _ _ (b .1))
+      module _ (z : j .outcome ≡ Done) where
+        -- All lines are accepted.
+        accepts : judge (machineOfHeader h) behindHeader 2 behind ≡ accept (recordOf (j .machine))
+        accepts = first-pass ∙ rw z
 
-      pub load-storable : storable size (lines (drop (r .next) text)) ≡ true
-      load-storable = accepts .storable
+        -- What the second pass asks.
+        pub load-lent : (h .size ≤ length w) × (h .size ≤ length l)
+        load-lent =
+            let b = and-iff (leb (h .size) (length w)) (leb (h .size) (length l)) .0 header-lent in
+            (leb-true _ _ (b .0), leb-true _ _ (b .1))
 
-      -- All lines are accepted.
-      pub load-accepted : (w′ l′ : List ℕ) → bank w′ l′ ≡ fill (lines (drop (r .next) text)) (cleared size (bank w l))
-          → loadingOf (record { verdict = j .verdict; line = 0; machine = j .machine }) w′ l′ ≡ load text (bank w l)
-      load-accepted w′ l′ f = rw (accepted, f) (rw load-settles (rw (accepted, accepts .size)))
+        pub load-storable : storable (h .size) behind ≡ true
+        load-storable = accepted-storable (machineOfHeader h) behindHeader 2 behind (recordOf (j .machine)) accepts
+
+        -- The lines of the text are an M line and those behind it.
+        all-lines : fill (lines text) (cleared (h .size) (bank w l)) ≡ fill behind (cleared (h .size) (bank w l))
+        unfolding fill
+        all-lines =
+            ap (λ (ls : List Line). fill ls (cleared (h .size) (bank w l)))
+            (begun-lines text x (d .begun) ∙ ap (λ (k : Line). onwards k behind) (d .line))
+
+        -- The text is accepted.
+        pub load-accepted : (w′ l′ : List ℕ) → bank w′ l′ ≡ fill behind (cleared (h .size) (bank w l))
+            → loadingOf (record { outcome = j .outcome; line = 0; machine = j .machine }) w′ l′ ≡ load text (bank w l)
+        unfolding load
+        load-accepted w′ l′ g =
+            let size = judge-size (machineOfHeader h) behindHeader 2 behind (recordOf (j .machine)) accepts in
+            rw (z, g) (rw (text-judged, z, size, all-lines) refl)

@@ -7,14 +7,16 @@ use mathlib.Core.List.{List, [], _∷_}
 use native.Mathlib.Nat.{le-refl}
 use native.Mathlib.Omega.{arith}
 use lib.ListN.{length, drop, length-drop}
+use Rattle.causes.specs.Tests.{firstRefusal}
 use Rattle.model.specs.declared.format.Line.{Line}
 use Rattle.model.specs.declared.format.Line.the-variants.{M, G, R, W, Malformed}
-use Rattle.model.specs.Record.{Bank}
+use Rattle.model.specs.declared.judging.Last.{Last}
+use Rattle.model.specs.Record.{Bank, Machine}
 use Rattle.model.specs.Text.{readLine, onwards, linesIn, lines}
-use Rattle.model.specs.Load.{Progress, judge, fill, entryInRange}
+use Rattle.model.specs.Load.{entryInRange, lineTests, judge, withWord, fill}
 use Rattle.model.proofs.Truth.{and-iff, clash}
 use Rattle.reader.proofs.Laws.{sized}
-use Rattle.loader.specs.Load.{storable}
+use Rattle.loader.specs.Load.{isStorable, storable}
 
 -- ---- the first line and the lines of the rest
 
@@ -68,45 +70,43 @@ lines-first (b ∷ xs) h =
 -- ---- judged
 
 -- A malformed line is refused whatever is behind it.
-judge-onwards : (g : Progress) (n : ℕ) (l : Line) (ls : List Line) → judge g n (onwards l ls) ≡ judge g n (l ∷ ls)
-unfolding judge
-judge-onwards g n (M a b c d e f) ls = refl
-judge-onwards g n (G a b c) ls = refl
-judge-onwards g n (R a b c) ls = refl
-judge-onwards g n (W a b c) ls = refl
-judge-onwards g n Malformed ls = refl
+judge-onwards : (r : Machine) (last : Last) (n : ℕ) (l : Line) (ls : List Line)
+    → judge r last n (onwards l ls) ≡ judge r last n (l ∷ ls)
+unfolding judge lineTests firstRefusal
+judge-onwards r last n (M a b c d e f) ls = refl
+judge-onwards r last n (G a b c) ls = refl
+judge-onwards r last n (R a b c) ls = refl
+judge-onwards r last n (W a b c) ls = refl
+judge-onwards r last n Malformed ls = refl
 
 -- A text is judged by its first line, then the lines of the rest.
-pub judge-first : (g : Progress) (n : ℕ) (xs : List ℕ) → 0 < length xs
-    → judge g n (lines xs) ≡ judge g n (readLine xs .line ∷ lines (drop (readLine xs .next) xs))
-judge-first g n xs h =
-    ap (judge g n) (lines-first xs h) ∙ judge-onwards g n (readLine xs .line) (lines (drop (readLine xs .next) xs))
+pub judge-first : (r : Machine) (last : Last) (n : ℕ) (xs : List ℕ) → 0 < length xs
+    → judge r last n (lines xs) ≡ judge r last n (readLine xs .line ∷ lines (drop (readLine xs .next) xs))
+judge-first r last n xs h =
+    ap (judge r last n) (lines-first xs h)
+    ∙ judge-onwards r last n (readLine xs .line) (lines (drop (readLine xs .next) xs))
 
 -- ---- written
 
 -- The first line, where all lines may be written.
 pub record First (size : ℕ) (l : Line) (ls : List Line) : Type 0 where
   pub good : l ≡ Malformed → ⊥
-  pub this : storable size (l ∷ []) ≡ true
+  pub this : isStorable size l ≡ true
   pub rest : storable size ls ≡ true
+
+-- What may be written isn't malformed.
+storable-good : (size : ℕ) (l : Line) → isStorable size l ≡ true → l ≡ Malformed → ⊥
+storable-good size l h m = clash (rw m at h) refl
 
 -- The same of a line and the lines behind it.
 storable-onwards : (size : ℕ) (l : Line) (ls : List Line) → storable size (onwards l ls) ≡ true → First size l ls
 unfolding storable
-storable-onwards size (M a b c d e f) ls h =
-    record { good = λ x. let z : _≡_ {A = ℕ} 0 1 = cc in omega arith; this = refl; rest = h }
-storable-onwards size (G a b c) ls h =
-    record { good = λ x. let z : _≡_ {A = ℕ} 0 1 = cc in omega arith; this = refl; rest = h }
-storable-onwards size (R a b c) ls h =
-    record { good = λ x. let z : _≡_ {A = ℕ} 0 1 = cc in omega arith; this = refl; rest = h }
+storable-onwards size (M a b c d e f) ls h = record { good = storable-good size _ refl; this = refl; rest = h }
+storable-onwards size (G a b c) ls h = record { good = storable-good size _ refl; this = refl; rest = h }
+storable-onwards size (R a b c) ls h = record { good = storable-good size _ refl; this = refl; rest = h }
 storable-onwards size (W k l v) ls h =
-    let both : (entryInRange size k l v ≡ true) × (storable size ls ≡ true) =
-    and-iff (entryInRange size k l v) (storable size ls) .0 h in
-    record {
-      good = λ x. let z : _≡_ {A = ℕ} 0 1 = cc in omega arith;
-      this = and-iff (entryInRange size k l v) true .1 (both .0, refl);
-      rest = both .1;
-    }
+    let both = and-iff (entryInRange size k l v) (storable size ls) .0 h in
+    record { good = storable-good size (W k l v) (both .0); this = both .0; rest = both .1 }
 storable-onwards size Malformed ls h = clash h refl
 
 -- Where all lines of a text may be written, so may its first, and the lines of the rest.
@@ -117,7 +117,7 @@ storable-first size xs h e =
     (ap (storable size) (sym (lines-first xs h)) ∙ e)
 
 -- A line is written, then those behind it.
-fill-onwards : (l : Line) (ls : List Line) (m : Bank) → (l ≡ Malformed → ⊥) → fill (onwards l ls) m ≡ fill ls (fill (l ∷ []) m)
+fill-onwards : (l : Line) (ls : List Line) (m : Bank) → (l ≡ Malformed → ⊥) → fill (onwards l ls) m ≡ fill ls (withWord m l)
 unfolding fill
 fill-onwards (M a b c d e f) ls m h = refl
 fill-onwards (G a b c) ls m h = refl
@@ -127,7 +127,7 @@ fill-onwards Malformed ls m h = absurd (h refl)
 
 -- A text is written by its first line, then the lines of the rest.
 pub fill-first : (xs : List ℕ) (m : Bank) → 0 < length xs → (readLine xs .line ≡ Malformed → ⊥)
-    → fill (lines xs) m ≡ fill (lines (drop (readLine xs .next) xs)) (fill (readLine xs .line ∷ []) m)
+    → fill (lines xs) m ≡ fill (lines (drop (readLine xs .next) xs)) (withWord m (readLine xs .line))
 fill-first xs m h g =
     ap (λ (ls : List Line). fill ls m) (lines-first xs h)
     ∙ fill-onwards (readLine xs .line) (lines (drop (readLine xs .next) xs)) m g

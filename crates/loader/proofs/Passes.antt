@@ -2,30 +2,31 @@
 -- Assumes nothing.
 use Prim.Native.Nat.{ℕ, _+_, _-_, _≤_, _<_}
 use mathlib.Core.Path.{_≡_, refl, sym, ap, _∙_}
-use mathlib.Core.Bool.{true, _&&_}
+use mathlib.Core.Bool.{true}
 use mathlib.Core.List.{List, [], _∷_, _++_}
 use native.Mathlib.Omega.{arith}
 use borrow.Author.Fill.{fill-none, fill-more}
-use borrow.Author.Tests.{lt-ltb, eq-eqb, ne-eqb}
-use lib.Dec.{ltb, eqb}
+use borrow.Author.Tests.{lt-ltb}
 use lib.ListN.{length, take, drop, set, replicate, length-drop, length-set, drop-of-length-le}
 use lib.Seq.{drop-drop}
 use Rattle.labels.specs.Label.{lowest}
+use Rattle.causes.specs.declared.Cause.{Cause}
+use Rattle.causes.specs.declared.Outcome.{Outcome}
+use Rattle.causes.specs.declared.Outcome.the-variants.{Done, Refused}
+use Rattle.causes.specs.Tests.{firstRefusal}
 use Rattle.model.specs.declared.format.Line.{Line}
 use Rattle.model.specs.declared.format.Line.the-variants.{M, G, R, W, Malformed}
 use Rattle.model.specs.declared.format.Read.{Read}
+use Rattle.model.specs.declared.judging.Last.{Last}
 use Rattle.model.specs.Record.{Bank, Machine}
 use Rattle.model.specs.Ops.{isLabel}
 use Rattle.model.specs.Text.{readLine, linesIn, lines}
-use Rattle.model.specs.Load.{Progress, refuse, accept, judge, fill, cleared, entryInRange}
-use Rattle.model.proofs.Truth.{and-iff}
+use Rattle.model.specs.Load.{entryInRange, lineTests, behindHeader, lastOf, withLine, refuse, accept, tried, judge, cleared, withWord, fill}
 use Rattle.reader.proofs.Laws.{part, sized}
-use Rattle.loader.specs.declared.Progress as struct
-use Rattle.loader.specs.declared.Tried.{Tried}
-use Rattle.answers.specs.Load.{numberOf}
-use Rattle.answers.proofs.Ranges.{EntryRange, entry-range}
-use Rattle.loader.specs.Load.{progressOf, withLine, Trial, afterwards, storable, bank}
+use Rattle.verdicts.proofs.Ranges.{EntryRange, entry-range}
+use Rattle.loader.specs.Load.{takes, isStorable, storable, bank}
 use Rattle.loader.proofs.Lines.{First, judge-first, storable-first, fill-first}
+use Rattle.loader.proofs.Judging.{line-takes, line-good}
 
 -- ---- a line that was read
 
@@ -61,80 +62,72 @@ no-lines text at h = rw (drop-of-length-le text h)
 -- ---- the first pass
 
 -- The lines from `at` on, the first of which is line n, are still to be judged.
-pub record Judged (text : List ℕ) (start : ℕ) (g₀ g : Progress) (at n : ℕ) : Type 0 where
+pub record Judged (text : List ℕ) (start : ℕ) (r₀ r : Machine) (last : Last) (at n : ℕ) : Type 0 where
   pub counted : n ≤ at + 2
-  pub same : judge g n (lines (drop at text)) ≡ judge g₀ 2 (lines (drop start text))
+  pub same : judge r last n (lines (drop at text)) ≡ judge r₀ behindHeader 2 (lines (drop start text))
 
--- A line that is accepted isn't malformed.
-pub accepted-good : (r : Machine) (g : struct.Progress) (l : Line) (t : Tried) → Trial (r .fixed .size) (r .fixed .count) g l t
-    → numberOf (t .verdict) ≤ 0 → l ≡ Malformed → ⊥
-unfolding judge afterwards
-accepted-good r g l t h z m =
-    let c : numberOf (t .verdict) ≡ 0 = omega arith in
-    let e : refuse 2 0 ≡ accept (withLine r l) =
-    sym (ap (λ (k : Line). judge (progressOf r g) 0 (k ∷ [])) m) ∙ h .judged r refl refl 0 [] ∙ rw c in
-    let x : _≡_ {A = ℕ} 0 1 = cc in
-    omega arith
+module _ {text : List ℕ} {start : ℕ} {r₀ r : Machine} {last : Last} {at n : ℕ} {x : Read} {o : Outcome} (a : At text at x)
+    (h : o ≡ firstRefusal (lineTests (r .fixed .size) (r .fixed .count) last (x .line)))
+    (j : Judged text start r₀ r last at n)
+  where
+    -- The verdict goes by the outcome of this line.
+    judged-here : tried o n (judge (withLine r (x .line)) (lastOf (x .line)) (n + 1) (lines (drop (at + x .next) text)))
+        ≡ judge r₀ behindHeader 2 (lines (drop start text))
+    unfolding judge
+    judged-here =
+        ap (λ (z : Outcome). tried z n (judge (withLine r (x .line)) (lastOf (x .line)) (n + 1) (lines (drop (at + x .next) text)))) h
+        ∙ ap (λ (ls : List ℕ). judge r last n (x .line ∷ lines ls)) (sym (a .behind))
+        ∙ ap (λ (q : Read). judge r last n (q .line ∷ lines (drop (q .next) (drop at text)))) (sym (a .reads))
+        ∙ sym (judge-first r last n (drop at text) (a .more))
+        ∙ j .same
 
-module _ (text : List ℕ) (start : ℕ) (g₀ : Progress) (m : Machine) (g : struct.Progress) (at n : ℕ) (r : Read) (t : Tried)
-    (a : At text at r) (h : Trial (m .fixed .size) (m .fixed .count) g (r .line) t)
-    (j : Judged text start g₀ (progressOf m g) at n) where
-  -- The verdict goes by the trial of this line.
-  judged-here : afterwards (withLine m (r .line)) t n (lines (drop (at + r .next) text)) ≡ judge g₀ 2 (lines (drop start text))
-  judged-here =
-      sym (h .judged m refl refl n (lines (drop (at + r .next) text)))
-      ∙ ap (λ (ls : List ℕ). judge (progressOf m g) n (r .line ∷ lines ls)) (sym (a .behind))
-      ∙ ap (λ (q : Read). judge (progressOf m g) n (q .line ∷ lines (drop (q .next) (drop at text)))) (sym (a .reads))
-      ∙ sym (judge-first (progressOf m g) n (drop at text) (a .more))
-      ∙ j .same
+    -- The line is refused.
+    pub judged-refused : (c : Cause) → o ≡ Refused c → refuse c n ≡ judge r₀ behindHeader 2 (lines (drop start text))
+    judged-refused c e = rw e at judged-here
 
-  -- The line is accepted, and the record takes it.
-  pub judged-more : (m′ : Machine) → m′ ≡ withLine m (r .line) → numberOf (t .verdict) ≤ 0
-      → Judged text start g₀ (progressOf m′ (t .progress)) (at + r .next) (n + 1)
-  unfolding afterwards
-  judged-more m′ e z =
-      let c : eqb (numberOf (t .verdict)) 0 ≡ true = eq-eqb (numberOf (t .verdict)) 0 (omega arith) in
-      record {
-        counted = omega (arith, j .counted, moves text at r a (accepted-good m g (r .line) t h z));
-        same =
-            ap (λ (x : Machine). judge (progressOf x (t .progress)) (n + 1) (lines (drop (at + r .next) text))) e
-            ∙ rw c at judged-here;
-      }
+    module _ (e : o ≡ Done) where
+      -- The line is accepted, so that it isn't malformed.
+      pub accepted-good : x .line ≡ Malformed → ⊥
+      accepted-good = line-good (r .fixed .size) (r .fixed .count) last (x .line) (sym h ∙ e)
 
-  -- The line is refused.
-  pub judged-refused : 0 < numberOf (t .verdict) → refuse (numberOf (t .verdict)) n ≡ judge g₀ 2 (lines (drop start text))
-  unfolding afterwards
-  judged-refused z = rw (ne-eqb (numberOf (t .verdict)) 0 (λ e. omega arith)) at judged-here
+      -- The record can take it.
+      pub accepted-taken : takes (r .fixed .count) (x .line) ≡ true
+      accepted-taken = line-takes (r .fixed .size) (r .fixed .count) last (x .line) (sym h ∙ e)
+
+      -- And does.
+      pub judged-more : (r′ : Machine) (last′ : Last) → r′ ≡ withLine r (x .line) → last′ ≡ lastOf (x .line)
+          → Judged text start r₀ r′ last′ (at + x .next) (n + 1)
+      judged-more r′ last′ p q =
+          record {
+            counted = omega (arith, j .counted, moves text at x a accepted-good);
+            same = rw (p, q) (rw e at judged-here);
+          }
 
 -- All lines are accepted.
-pub judged-end : (text : List ℕ) (start : ℕ) (g₀ g : Progress) (at n : ℕ) → Judged text start g₀ g at n → length text ≤ at
-    → accept (g .machine) ≡ judge g₀ 2 (lines (drop start text))
+pub judged-end : (text : List ℕ) (start : ℕ) (r₀ r : Machine) (last : Last) (at n : ℕ) → Judged text start r₀ r last at n
+    → length text ≤ at → accept r ≡ judge r₀ behindHeader 2 (lines (drop start text))
 unfolding judge
-judged-end text start g₀ g at n j h = rw (no-lines text at h) at (j .same)
+judged-end text start r₀ r last at n j h = rw (no-lines text at h) at (j .same)
 
 -- ---- the second pass
 
 -- A line that may be written below a size may be written below a larger one.
-pub storable-wider : (a b : ℕ) (l : Line) → a ≤ b → storable a (l ∷ []) ≡ true → storable b (l ∷ []) ≡ true
-unfolding storable entryInRange isLabel
+pub storable-wider : (a b : ℕ) (l : Line) → a ≤ b → isStorable a l ≡ true → isStorable b l ≡ true
+unfolding entryInRange isLabel
 storable-wider a b (M _ _ _ _ _ _) h e = e
 storable-wider a b (G _ _ _) h e = e
 storable-wider a b (R _ _ _) h e = e
 storable-wider a b (W k l v) h e =
-    let i = and-iff (ltb k a && ltb l 256 && ltb v 4294967296) true .0 e in
-    let r : EntryRange a k l v = entry-range a k l v (i .0) in
+    let r : EntryRange a k l v = entry-range a k l v e in
     rw (lt-ltb k b (omega (arith, r .below)), lt-ltb l 256 (r .label), lt-ltb v 4294967296 (r .value))
 storable-wider a b Malformed h e = e
 
 -- The numbers of a W line that may be written.
-pub stored-range : (n : ℕ) (line : Line) (k l v : ℕ) → storable n (line ∷ []) ≡ true → line ≡ W k l v → EntryRange n k l v
-unfolding storable
-stored-range n line k l v e q =
-    entry-range n k l v (and-iff (entryInRange n k l v) true .0 (ap (λ (x : Line). storable n (x ∷ [])) (sym q) ∙ e) .0)
+pub stored-range : (n : ℕ) (line : Line) (k l v : ℕ) → isStorable n line ≡ true → line ≡ W k l v → EntryRange n k l v
+stored-range n line k l v e q = entry-range n k l v (ap (isStorable n) (sym q) ∙ e)
 
 -- Only a W line is written.
-pub not-stored : (l : Line) (m : Bank) → ((a b c : ℕ) → l ≡ W a b c → ⊥) → m ≡ fill (l ∷ []) m
-unfolding fill
+pub not-stored : (l : Line) (m : Bank) → ((a b c : ℕ) → l ≡ W a b c → ⊥) → m ≡ withWord m l
 not-stored (M _ _ _ _ _ _) m h = refl
 not-stored (G _ _ _) m h = refl
 not-stored (R _ _ _) m h = refl
@@ -156,7 +149,7 @@ module _ (text : List ℕ) (start size : ℕ) (w₀ l₀ w l : List ℕ) (at : �
       rw (← a .behind) (rw (a .reads) at (storable-first size (drop at text) (a .more) (j .rest)))
 
   -- This line is written.
-  pub written-more : (w′ l′ : List ℕ) → bank w′ l′ ≡ fill (r .line ∷ []) (bank w l) → length w′ ≡ length w
+  pub written-more : (w′ l′ : List ℕ) → bank w′ l′ ≡ withWord (bank w l) (r .line) → length w′ ≡ length w
       → length l′ ≡ length l → Written text start size w₀ l₀ w′ l′ (at + r .next)
   written-more w′ l′ e p q =
       record {
@@ -165,8 +158,8 @@ module _ (text : List ℕ) (start size : ℕ) (w₀ l₀ w l : List ℕ) (at : �
         labels = q ∙ j .labels;
         same =
             ap (fill (lines (drop (at + r .next) text))) e
-            ∙ ap (λ (xs : List ℕ). fill (lines xs) (fill (r .line ∷ []) (bank w l))) (sym (a .behind))
-            ∙ ap (λ (x : Read). fill (lines (drop (x .next) (drop at text))) (fill (x .line ∷ []) (bank w l))) (sym (a .reads))
+            ∙ ap (λ (xs : List ℕ). fill (lines xs) (withWord (bank w l) (r .line))) (sym (a .behind))
+            ∙ ap (λ (x : Read). fill (lines (drop (x .next) (drop at text))) (withWord (bank w l) (x .line))) (sym (a .reads))
             ∙ sym
             (fill-first (drop at text) (bank w l) (a .more)
             (λ m. written-line .good (ap (λ (x : Read). x .line) (sym (a .reads)) ∙ m)))

@@ -7,6 +7,8 @@ use mathlib.Core.List.{List}
 use borrow.Author.Tests.{leb-true, le-leb, lt-leb}
 use lib.Dec.{leb}
 use lib.ListN.{length}
+use Rattle.causes.specs.declared.Cause.the-variants.{ShortMemory, IllFormed}
+use Rattle.causes.specs.declared.Outcome.the-variants.{Done, Refused}
 use Rattle.model.specs.declared.Pair.{Pair}
 use Rattle.model.specs.declared.Control.{Control}
 use Rattle.model.specs.declared.Call.{Call}
@@ -17,7 +19,6 @@ use Rattle.model.specs.WellFormed.{isValid, fixedInRange, endInRange, upcallWel
 use Rattle.model.specs.Step.{step, steps, run}
 use Rattle.model.specs.Answer.{answer}
 use Rattle.machine.specs.declared.Machine.{Machine}
-use Rattle.machine.specs.declared.Outcome.the-variants.{Done, IllFormed, ShortMemory}
 use Rattle.engine.specs.Drive.{stateFrom, Fit, Driven}
 use Rattle.machine.specs.Answered.{recordOf, answered, lent, stepped, Carried, overGate}
 
@@ -114,16 +115,16 @@ module _ (once : Bool) (m : Machine) (words labels : List ℕ) where
   answered-done w a b h = rw (w, le-leb _ _ a, le-leb _ _ b, h .machine, h .memory)
 
   pub answered-short-words : wellFormed (recordOf m) ≡ true → length words < m .fixed .size
-      → answered (record { outcome = ShortMemory; machine = m }) words labels ≡ answer (stepped once) (recordOf m) (lent words labels)
+      → answered (record { outcome = Refused ShortMemory; machine = m }) words labels ≡ answer (stepped once) (recordOf m) (lent words labels)
   unfolding answer lentWhole
   answered-short-words w a = rw (w, lt-leb _ _ a)
 
   pub answered-short-labels : wellFormed (recordOf m) ≡ true → m .fixed .size ≤ length words → length labels < m .fixed .size
-      → answered (record { outcome = ShortMemory; machine = m }) words labels ≡ answer (stepped once) (recordOf m) (lent words labels)
+      → answered (record { outcome = Refused ShortMemory; machine = m }) words labels ≡ answer (stepped once) (recordOf m) (lent words labels)
   unfolding answer lentWhole
   answered-short-labels w a b = rw (w, le-leb _ _ a, lt-leb _ _ b)
 
   pub answered-ill : wellFormed (recordOf m) ≡ false
-      → answered (record { outcome = IllFormed; machine = m }) words labels ≡ answer (stepped once) (recordOf m) (lent words labels)
+      → answered (record { outcome = Refused IllFormed; machine = m }) words labels ≡ answer (stepped once) (recordOf m) (lent words labels)
   unfolding answer
   answered-ill w = rw w

@@ -1,5 +1,5 @@
--- What the public calls answer, in the model's terms: the record of the machine's struct, the paper's number of each
--- outcome, and both with the lent memory at exit.
+-- What the public calls answer, in the model's terms: the record of the machine's struct, and an answer with the lent
+-- memory at exit.
 -- Assumes nothing.
 use Prim.Native.Nat.{ℕ}
 use mathlib.Core.Path.{_≡_}
@@ -14,19 +14,11 @@ use Rattle.model.specs.WellFormed.{upcallWellFormed}
 use Rattle.model.specs.Step.{step, run}
 use Rattle.model.specs.Answer as model
 use Rattle.machine.specs.declared.Machine.{Machine}
-use Rattle.machine.specs.declared.Outcome.{Outcome}
-use Rattle.machine.specs.declared.Outcome.the-variants.{Done, IllFormed, ShortMemory}
 use Rattle.machine.specs.declared.Answer.{Answer}
 
 -- The record that a machine's struct is. It forgets nothing: proofs/Faithful.antt.
 abbrev pub recordOf : Machine → record-of.Machine
 recordOf m = record { fixed = m .fixed; control = m .control; registers = record { values = m .values; labels = m .labels } }
-
--- The paper's number of an outcome: none for a call that was carried out, 7 and 6 for the refusals.
-abbrev pub numberOf : Outcome → ℕ
-numberOf Done = 0
-numberOf IllFormed = 7
-numberOf ShortMemory = 6
 
 -- Lent words and label bytes.
 abbrev pub lent : List ℕ → List ℕ → Bank
@@ -34,7 +26,7 @@ lent words labels = record { values = words; labels = labels }
 
 -- An answer with the lent memory at exit.
 abbrev pub answered : Answer → List ℕ → List ℕ → model.Answer
-answered r words labels = record { number = numberOf (r .outcome); machine = recordOf (r .machine); memory = lent words labels }
+answered r words labels = record { outcome = r .outcome; machine = recordOf (r .machine); memory = lent words labels }
 
 -- ======== Here ends what the public promises cite.
 

@@ -1,5 +1,6 @@
 // The machine: its record, what its calls answer, and whether the record is well-formed. One step and the run are in
 // steps.rt.
+use causes::Outcome;
 use labels::Label;
 use model::Call;
 use model::CallGate;
@@ -25,13 +26,6 @@ pub struct Machine {
     pub labels: [u8; 16],
 }
 
-// How a call ended: it was carried out, the record was not well-formed, or lent words or labels were shorter than the size.
-pub enum Outcome {
-    Done,
-    IllFormed,
-    ShortMemory,
-}
-
 // What a call answers.
 pub struct Answer {
     pub outcome: Outcome,
@@ -42,7 +36,7 @@ impl Machine {
     // The record before its first step: clock, end and why at 0, no open call, no gate, all registers of value 0 and the
     // lowest label.
     pub fn blank(size: u32, errorpc: u32, pc: u32, pair: Pair, limit: u32) -> Machine
-        ensures { λ r. ⌜ recordOf r ≡ machineOfHeader size errorpc pc (pair .pc) (pair .timing) limit ⌝ }
+        ensures { λ r. ⌜ recordOf r ≡ machineOfHeader (record { size = size; errorpc = errorpc; pc = pc; p = pair .pc; t = pair .timing; limit = limit }) ⌝ }
     {
         let none = CallGate {
             entry: 0,

@@ -2,7 +2,8 @@
 // then the record comes back and memory is left.
 use crate::Answer;
 use crate::Machine;
-use crate::Outcome;
+use causes::Cause;
+use causes::Outcome;
 use engine::steps::advance;
 ghost use Prim.Native.Nat.{_+_, _-_, _≤_};
 ghost use mathlib.Core.Path.{_≡_};
@@ -48,9 +49,10 @@ impl Machine {
     }
 
     // A refusal gives the record back.
-    fn refused(self, outcome: Outcome) -> Answer
-        ensures { λ r. ⌜ r ≡ record { outcome = outcome; machine = self } ⌝ }
+    fn refused(self, cause: Cause) -> Answer
+        ensures { λ r. ⌜ r ≡ record { outcome = Outcome.Refused cause; machine = self } ⌝ }
     {
+        let outcome = Outcome::Refused(cause);
         let machine = self;
         Answer { outcome, machine }
     }
@@ -63,16 +65,16 @@ impl Machine {
             let fixed = self.fixed;
             let size = length_of(fixed.size);
             if words.len() < size {
-                return self.refused(Outcome::ShortMemory);
+                return self.refused(Cause::ShortMemory);
             }
             if labels.len() < size {
-                return self.refused(Outcome::ShortMemory);
+                return self.refused(Cause::ShortMemory);
             }
             let outcome = Outcome::Done;
             let machine = self.carried(once, words, labels);
             return Answer { outcome, machine };
         }
-        self.refused(Outcome::IllFormed)
+        self.refused(Cause::IllFormed)
     }
 
     // One step.

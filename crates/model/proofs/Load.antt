@@ -2,25 +2,35 @@
 -- whole, its numbers in their ranges. And a memory of 2,048 words and labels is never too short for a load.
 -- Assumes nothing.
 use Prim.Native.Nat.{ℕ, _+_, _^_, _<_, _≤_, zero-le}
-use mathlib.Core.Path.{_≡_, refl, ap, _∙_, subst}
+use mathlib.Core.Path.{_≡_, refl, sym, ap, _∙_, subst}
 use mathlib.Core.Logic.{⊎-elim}
-use mathlib.Core.Bool.{Bool, true, false, _&&_, cond}
+use mathlib.Core.Bool.{Bool, true, false, _&&_}
 use mathlib.Core.List.{List, [], _∷_, _++_}
 use native.Mathlib.Nat.{lt-of-lt-of-le}
 use native.Mathlib.Omega.{arith}
 use lib.Dec.{leb, ltb, lit<, lit≤}
 use lib.ListN.{length, drop, getD, replicate, length-set, length-append, length-replicate, getD-replicate, List·getD-append, List·getD-eq-default}
 use borrow.Author.Tests.{leb-true, ltb-true, ltb-false, le-leb}
+use Rattle.causes.specs.declared.Cause.{Cause}
+use Rattle.causes.specs.declared.Cause.the-variants.{TextLength, MalformedLine, OutOfRange, InvalidPair, ShortMemory}
+use Rattle.causes.specs.declared.Outcome.{Outcome}
+use Rattle.causes.specs.declared.Outcome.the-variants.{Done, Refused}
+use Rattle.causes.specs.Causes.{causeNumber}
+use Rattle.causes.specs.Tests.{unless, firstRefusal}
+use Rattle.causes.proofs.Numbers.{done-or-refused}
+use Rattle.causes.proofs.Order.{AllPass, all-pass, AllCauses, some-cause}
 use Rattle.model.specs.declared.Control.{Control}
 use Rattle.model.specs.declared.Call.the-variants.{Empty}
 use Rattle.model.specs.declared.format.Line.{Line}
 use Rattle.model.specs.declared.format.Line.the-variants.{M, G, R, W, Malformed}
+use Rattle.model.specs.declared.judging.Last.{Last}
+use Rattle.model.specs.declared.judging.Header.{Header}
 use Rattle.model.specs.Record.{Bank, Machine, State, stateOf}
 use Rattle.model.specs.WellFormed.{isValid, endInRange, wellFormed, lentWhole}
 use Rattle.model.specs.Typed.{Below}
 use Rattle.model.specs.Step.{running}
 use Rattle.model.specs.Text.{lines}
-use Rattle.model.specs.Load.{machineOfHeader, withGate, withRegister, withEntry, headerInRange, gateInRange, entryInRange, leastOf, Progress, Verdict, refuse, accept, tried, judge, cleared, fill, Loading, settle, loadLines, load}
+use Rattle.model.specs.Load.{machineOfHeader, withGate, withRegister, withEntry, withLine, headerInRange, gateInRange, entryInRange, headerTests, lineTests, behindHeader, lastOf, Verdict, refuse, accept, tried, judge, judgeHeader, judgeLines, judgeText, cleared, withWord, fill, settle, load}
 use Rattle.model.specs.Noninterference.{Loaded}
 use Rattle.model.specs.Program.{stateOfLoad}
 use Rattle.model.proofs.Truth.{choice, either, and-iff, clash}
@@ -121,59 +131,57 @@ word-in-order r m k l v h e =
 -- ---- the lines
 
 -- No refusal is an acceptance.
-refuse-accept : {n l : ℕ} {r : Machine} → refuse n l ≡ accept r → ⊥
-refuse-accept e = let z : _≡_ {A = ℕ} 0 1 = cc in omega arith
+refuse-accept {κ} : {P : Type κ} {c : Cause} {n : ℕ} {r : Machine} → refuse c n ≡ accept r → P
+refuse-accept e = let z : _≡_ {A = ℕ} 0 1 = cc in absurd (omega arith)
 
--- A line that is accepted was in range, and so are the lines behind it.
-tried-accept : (g : Progress) (n kind : ℕ) (inRange rising : Bool) (more : Verdict) (r : Machine)
-    → tried g n kind inRange rising more ≡ accept r → (inRange ≡ true) × (more ≡ accept r)
-tried-accept g n kind inRange rising more r e = go (leb (g .kind) kind) inRange rising e
-  where
-    go : (a b c : Bool) → cond a (cond b (cond c more (refuse 4 n)) (refuse 3 n)) (refuse 4 n) ≡ accept r
-        → (b ≡ true) × (more ≡ accept r)
-    go true true true e = (refl, e)
-    go true true false e = absurd (refuse-accept e)
-    go true false c e = absurd (refuse-accept e)
-    go false b c e = absurd (refuse-accept e)
+-- An accepted line passes its tests, and the lines behind it are accepted.
+pub tried-accept : (o : Outcome) (n : ℕ) (more : Verdict) (r : Machine) → tried o n more ≡ accept r
+    → (o ≡ Done) × (more ≡ accept r)
+tried-accept Done n more r e = (refl, e)
+tried-accept (Refused c) n more r e = refuse-accept e
 
--- A refusal of a line has a number from 1 to 5.
-data Numbered : Verdict → Type 0 where
-  numbered : {n l : ℕ} → 1 ≤ n → n ≤ 5 → Numbered (refuse n l)
-  granted : {r : Machine} → Numbered (accept r)
+pub judge-accept : (r : Machine) (last : Last) (n : ℕ) (l : Line) (ls : List Line) (r′ : Machine)
+    → judge r last n (l ∷ ls) ≡ accept r′
+    → AllPass (lineTests (r .fixed .size) (r .fixed .count) last l) × (judge (withLine r l) (lastOf l) (n + 1) ls ≡ accept r′)
+unfolding judge
+judge-accept r last n l ls r′ e =
+    let tests = lineTests (r .fixed .size) (r .fixed .count) last l in
+    let a = tried-accept (firstRefusal tests) n _ r′ e in (all-pass tests (a .0), a .1)
 
--- A line's verdict has such a number where that of the lines behind it has.
-tried-numbered : (g : Progress) (n kind : ℕ) (inRange rising : Bool) {more : Verdict} → Numbered more
-    → Numbered (tried g n kind inRange rising more)
-tried-numbered g n kind inRange rising h =
-    choice Numbered (leb (g .kind) kind) _ _
-    (λ a. choice Numbered inRange _ _ (λ b. choice Numbered rising _ _ (λ c. h) (λ c. numbered {n = 4} (omega arith) (omega arith))) (λ b. numbered {n = 3} (omega arith) (omega arith)))
-    (λ a. numbered {n = 4} (omega arith) (omega arith))
-
--- How far the lines have come after a G, an R and a W line.
-abbrev afterGate : Progress → ℕ → ℕ → ℕ → Progress
-afterGate g pc p t = record { machine = withGate (g .machine) pc p t; kind = 1; least = 0 }
-
-abbrev afterRegister : Progress → ℕ → ℕ → ℕ → Progress
-afterRegister g k l v = record { machine = withRegister (g .machine) k l v; kind = 2; least = k + 1 }
-
-abbrev afterWord : Progress → ℕ → Progress
-afterWord g k = record { machine = g .machine; kind = 3; least = k + 1 }
+-- A line that passes its tests leaves record and memory in order.
+line-in-order : (r : Machine) (m : Bank) (last : Last) (l : Line)
+    → AllPass (lineTests (r .fixed .size) (r .fixed .count) last l) → InOrder r m → InOrder (withLine r l) (withWord m l)
+unfolding lineTests
+line-in-order r m last (M a b c d e f) q h = clash (q .0) refl
+line-in-order r m last (G pc p t) q h = gate-in-order r m pc p t h (q .1 .0)
+line-in-order r m last (R k l v) q h = register-in-order r m k l v h (q .1 .0)
+line-in-order r m last (W k l v) q h = word-in-order r m k l v h (q .1 .0)
+line-in-order r m last Malformed q h = clash (q .0) refl
 
 -- Lines that are accepted leave record and memory in order.
-judged : (g : Progress) (n : ℕ) (ls : List Line) (m : Bank) (r : Machine) → judge g n ls ≡ accept r → InOrder (g .machine) m
-    → InOrder r (fill ls m)
+judged : (r : Machine) (last : Last) (n : ℕ) (ls : List Line) (m : Bank) (r′ : Machine) → judge r last n ls ≡ accept r′
+    → InOrder r m → InOrder r′ (fill ls m)
 unfolding judge fill
-judged g n [] m r e h = let p : g .machine ≡ r = cc in subst (λ (x : Machine). InOrder x m) p h
-judged g n (M a b c d q f ∷ ls) m r e h = absurd (refuse-accept e)
-judged g n (G pc p t ∷ ls) m r e h =
-    let a = tried-accept g n 1 (gateInRange (g .machine .fixed .count) pc p t) true _ r e in judged (afterGate g pc p t) (n + 1) ls m r (a .1) (gate-in-order (g .machine) m pc p t h (a .0))
-judged g n (R k l v ∷ ls) m r e h =
-    let a = tried-accept g n 2 (entryInRange 16 k l v) (leb (leastOf g 2) k) _ r e in
-    judged (afterRegister g k l v) (n + 1) ls m r (a .1) (register-in-order (g .machine) m k l v h (a .0))
-judged g n (W k l v ∷ ls) m r e h =
-    let a = tried-accept g n 3 (entryInRange (g .machine .fixed .size) k l v) (leb (leastOf g 3) k) _ r e in
-    judged (afterWord g k) (n + 1) ls (withEntry m k l v) r (a .1) (word-in-order (g .machine) m k l v h (a .0))
-judged g n (Malformed ∷ ls) m r e h = absurd (refuse-accept e)
+judged r last n [] m r′ e h = let p : r ≡ r′ = cc in subst (λ (x : Machine). InOrder x m) p h
+judged r last n (l ∷ ls) m r′ e h =
+    let a = judge-accept r last n l ls r′ e in
+    judged (withLine r l) (lastOf l) (n + 1) ls (withWord m l) r′ (a .1) (line-in-order r m last l (a .0) h)
+
+-- A line leaves the size.
+pub line-size : (r : Machine) (l : Line) → withLine r l .fixed .size ≡ r .fixed .size
+line-size r (M a b c d e f) = refl
+line-size r (G pc p t) = refl
+line-size r (R k l v) = refl
+line-size r (W k l v) = refl
+line-size r Malformed = refl
+
+-- So do all.
+pub judge-size : (r : Machine) (last : Last) (n : ℕ) (ls : List Line) (r′ : Machine) → judge r last n ls ≡ accept r′
+    → r′ .fixed .size ≡ r .fixed .size
+unfolding judge
+judge-size r last n [] r′ e = let p : r ≡ r′ = cc in ap (λ (x : Machine). x .fixed .size) (sym p)
+judge-size r last n (l ∷ ls) r′ e =
+    judge-size (withLine r l) (lastOf l) (n + 1) ls r′ (judge-accept r last n l ls r′ e .1) ∙ line-size r l
 
 -- ---- the first line
 
@@ -194,27 +202,27 @@ blank-registers k =
     (either (ltb k 16))
 
 -- An M line in its ranges with a valid pair gives a record in order.
-header-in-order : (size errorpc pc p t limit : ℕ) (m : Bank) → headerInRange size errorpc pc p t limit ≡ true
-    → isValid (record { pc = p; timing = t }) ≡ true → InOrder (machineOfHeader size errorpc pc p t limit) (cleared size m)
+header-in-order : (h : Header) (m : Bank) → headerInRange h ≡ true → isValid (machineOfHeader h .control .pair) ≡ true
+    → InOrder (machineOfHeader h) (cleared (h .size) m)
 unfolding headerInRange cleared
-header-in-order size errorpc pc p t limit m e v =
-    let h = simp and-iff at e in
+header-in-order h m e v =
+    let q = simp and-iff at e in
     record {
       fixed =
           record {
-            sizeLow = leb-true 1 size (h .0 .0 .0 .0 .0 .0 .0);
-            sizeHigh = leb-true size 2048 (h .0 .0 .0 .0 .0 .0 .1);
-            limitLow = leb-true 1 limit (h .0 .1);
-            limitHigh = leb-true limit (2 ^ 24) (h .1);
+            sizeLow = leb-true 1 (h .size) (q .0 .0 .0 .0 .0 .0 .0);
+            sizeHigh = leb-true (h .size) 2048 (q .0 .0 .0 .0 .0 .0 .1);
+            limitLow = leb-true 1 (h .limit) (q .0 .1);
+            limitHigh = leb-true (h .limit) (2 ^ 24) (q .1);
             gates = lit≤ tt;
           };
       started = record { valid = v; clock = refl; first = refl; second = refl; end = refl; why = refl };
       registers = record { bits = blank-registers; values = refl; labels = refl };
       memory =
           record {
-            bits = blank-words size (m .values);
-            words = blank-lent size 0 (m .values);
-            labels = blank-lent size _ (m .labels);
+            bits = blank-words (h .size) (m .values);
+            words = blank-lent (h .size) 0 (m .values);
+            labels = blank-lent (h .size) _ (m .labels);
           };
     }
 
@@ -249,120 +257,152 @@ in-order-loaded r m h =
           };
     }
 
--- So it is with every verdict.
-judge-numbered : (g : Progress) (n : ℕ) (ls : List Line) → Numbered (judge g n ls)
-unfolding judge
-judge-numbered g n [] = granted
-judge-numbered g n (M a b c d e f ∷ ls) = numbered {n = 4} (omega arith) (omega arith)
-judge-numbered g n (G pc p t ∷ ls) = tried-numbered g n 1 (gateInRange (g .machine .fixed .count) pc p t) true (judge-numbered (afterGate g pc p t) (n + 1) ls)
-judge-numbered g n (R k l v ∷ ls) = tried-numbered g n 2 (entryInRange 16 k l v) (leb (leastOf g 2) k) (judge-numbered (afterRegister g k l v) (n + 1) ls)
-judge-numbered g n (W k l v ∷ ls) = tried-numbered g n 3 (entryInRange (g .machine .fixed .size) k l v) (leb (leastOf g 3) k) (judge-numbered (afterWord g k) (n + 1) ls)
-judge-numbered g n (Malformed ∷ ls) = numbered {n = 2} (omega arith) (omega arith)
+-- An accepted text: an M line that passes its tests, and lines behind it that are accepted.
+pub record Accepts (ls : List Line) (m : Bank) (r : Machine) : Type 0 where
+  pub header : Header
+  pub rest : List Line
+  pub is : ls ≡ M (header .size) (header .errorpc) (header .pc) (header .p) (header .t) (header .limit) ∷ rest
+  pub tests : AllPass (headerTests header m)
+  pub judged : judge (machineOfHeader header) behindHeader 2 rest ≡ accept r
 
--- A verdict of acceptance leaves a loaded state.
-settled : (v : Verdict) (ls : List Line) (m : Bank) → Numbered v
-    → ((r : Machine) → v ≡ accept r → Loaded (stateOf r (fill ls (cleared (r .fixed .size) m)))) → settle v ls m .number ≡ 0
-    → Loaded (stateOfLoad (settle v ls m))
-settled (refuse n l) ls m (numbered low high) f e = absurd (omega arith)
-settled (accept r) ls m granted f e = f r refl
+-- A verdict of acceptance says so.
+lines-accept : (ls : List Line) (m : Bank) (r : Machine) → judgeLines ls m ≡ accept r → Accepts ls m r
+unfolding judgeHeader
+lines-accept [] m r e = refuse-accept e
+lines-accept (M size errorpc pc p t limit ∷ ls) m r e =
+    let h : Header = record { size = size; errorpc = errorpc; pc = pc; p = p; t = t; limit = limit } in
+    let a = tried-accept (firstRefusal (headerTests h m)) 1 _ r e in
+    record { header = h; rest = ls; is = refl; tests = all-pass _ (a .0); judged = a .1 }
+lines-accept (G a b c ∷ ls) m r e = refuse-accept e
+lines-accept (R a b c ∷ ls) m r e = refuse-accept e
+lines-accept (W a b c ∷ ls) m r e = refuse-accept e
+lines-accept (Malformed ∷ ls) m r e = refuse-accept e
 
--- The lines behind the first leave the size.
-judge-size : (g : Progress) (n : ℕ) (ls : List Line) (r : Machine) → judge g n ls ≡ accept r
-    → g .machine .fixed .size ≡ r .fixed .size
-unfolding judge
-judge-size g n [] r e = let p : g .machine ≡ r = cc in ap (λ (x : Machine). x .fixed .size) p
-judge-size g n (M a b c d q f ∷ ls) r e = absurd (refuse-accept e)
-judge-size g n (G pc p t ∷ ls) r e = judge-size (afterGate g pc p t) (n + 1) ls r (tried-accept g n 1 (gateInRange (g .machine .fixed .count) pc p t) true _ r e .1)
-judge-size g n (R k l v ∷ ls) r e = judge-size (afterRegister g k l v) (n + 1) ls r (tried-accept g n 2 (entryInRange 16 k l v) (leb (leastOf g 2) k) _ r e .1)
-judge-size g n (W k l v ∷ ls) r e = judge-size (afterWord g k) (n + 1) ls r (tried-accept g n 3 (entryInRange (g .machine .fixed .size) k l v) (leb (leastOf g 3) k) _ r e .1)
-judge-size g n (Malformed ∷ ls) r e = absurd (refuse-accept e)
+-- What is accepted behind a test is accepted.
+unless-accept : (test : Bool) (c : Cause) (n : ℕ) (v : Verdict) (r : Machine) → unless test (refuse c n) v ≡ accept r
+    → v ≡ accept r
+unless-accept true c n v r e = e
+unless-accept false c n v r e = refuse-accept e
 
--- A load that is accepted leaves a loaded state.
-abbrev Leaves : Loading → Type 0
-Leaves a = a .number ≡ 0 → Loaded (stateOfLoad a)
+pub text-accepts : (text : List ℕ) (m : Bank) (r : Machine) → judgeText text m ≡ accept r → Accepts (lines text) m r
+unfolding judgeText
+text-accepts text m r e =
+    lines-accept (lines text) m r (unless-accept (leb 1 (length text) && leb (length text) 65535) TextLength 0 _ r e)
 
--- The lines behind an M line that is accepted.
-header-loaded : (size errorpc pc p t limit : ℕ) (ls : List Line) (m : Bank) → headerInRange size errorpc pc p t limit ≡ true
-    → isValid (record { pc = p; timing = t }) ≡ true
-    → Leaves (settle (judge (record { machine = machineOfHeader size errorpc pc p t limit; kind = 1; least = 0 }) 2 ls) ls m)
-header-loaded size errorpc pc p t limit ls m h v e =
-    let g : Progress = record { machine = machineOfHeader size errorpc pc p t limit; kind = 1; least = 0 } in
-    settled (judge g 2 ls) ls m (judge-numbered g 2 ls)
-    (λ r q.
-    in-order-loaded r (fill ls (cleared (r .fixed .size) m))
-    (subst (λ (n : ℕ). InOrder r (fill ls (cleared n m))) (judge-size g 2 ls r q)
-    (judged g 2 ls (cleared size m) r q (header-in-order size errorpc pc p t limit m h v))))
-    e
+-- An accepted text leaves a loaded state.
+accepts-loaded : (ls : List Line) (m : Bank) (r : Machine) → Accepts ls m r
+    → Loaded (stateOf r (fill ls (cleared (r .fixed .size) m)))
+unfolding fill headerTests
+accepts-loaded ls m r a =
+    let h = a .header in
+    let size = judge-size (machineOfHeader h) _ 2 (a .rest) r (a .judged) in
+    rw (a .is)
+    (in-order-loaded r (fill (a .rest) (cleared (r .fixed .size) m))
+    (subst (λ (n : ℕ). InOrder r (fill (a .rest) (cleared n m))) (sym size)
+    (judged (machineOfHeader h) _ 2 (a .rest) (cleared (h .size) m) r (a .judged)
+    (header-in-order h m (a .tests .0) (a .tests .1 .0)))))
 
--- The lines of an accepted text leave a loaded state.
-lines-loaded : (ls : List Line) (m : Bank) → Leaves (loadLines ls m)
-lines-loaded [] m = λ e. absurd (omega arith)
-lines-loaded (M size errorpc pc p t limit ∷ ls) m =
-    choice Leaves (headerInRange size errorpc pc p t limit) _ _
-    (λ h.
-    choice Leaves (isValid (record { pc = p; timing = t })) _ _
-    (λ v.
-    choice Leaves (lentWhole (machineOfHeader size errorpc pc p t limit .fixed) (m .values) (m .labels)) _ _
-    (λ l. header-loaded size errorpc pc p t limit ls m h v)
-    (λ l e. absurd (omega arith)))
-    (λ v e. absurd (omega arith)))
-    (λ h e. absurd (omega arith))
-lines-loaded (G a b c ∷ ls) m = λ e. absurd (omega arith)
-lines-loaded (R a b c ∷ ls) m = λ e. absurd (omega arith)
-lines-loaded (W a b c ∷ ls) m = λ e. absurd (omega arith)
-lines-loaded (Malformed ∷ ls) m = λ e. absurd (omega arith)
+-- So the answer by a verdict has one where it is done.
+settled : (v : Verdict) (ls : List Line) (m : Bank)
+    → ((r : Machine) → v ≡ accept r → Loaded (stateOf r (fill ls (cleared (r .fixed .size) m))))
+    → settle v ls m .outcome ≡ Done → Loaded (stateOfLoad (settle v ls m))
+settled (refuse c n) ls m f e = done-or-refused e refl
+settled (accept r) ls m f e = f r refl
 
 -- An accepted load leaves a loaded state.
-pub load-loaded : (text : List ℕ) (m : Bank) → load text m .number ≡ 0 → Loaded (stateOfLoad (load text m))
+pub load-loaded : (text : List ℕ) (m : Bank) → load text m .outcome ≡ Done → Loaded (stateOfLoad (load text m))
 unfolding load
 load-loaded text m =
-    choice Leaves (leb 1 (length text) && leb (length text) 65535) _ _ (λ h. lines-loaded (lines text) m) (λ h e. absurd (omega arith))
+    settled (judgeText text m) (lines text) m (λ r e. accepts-loaded (lines text) m r (text-accepts text m r e))
 
 -- ---- memory that is never too short
 
--- The number of a load isn't 6.
-abbrev NotSix : Loading → Type 0
-NotSix a = a .number ≡ 6 → ⊥
+-- The outcome is no refusal, or one of the causes 1 to 5.
+abbrev Early : Outcome → Type 0
+Early o = (c : Cause) → o ≡ Refused c → causeNumber c ≤ 5
 
-settled-not-six : (v : Verdict) (ls : List Line) (m : Bank) → Numbered v → NotSix (settle v ls m)
-settled-not-six (refuse n l) ls m (numbered low high) e = omega arith
-settled-not-six (accept r) ls m granted e = omega arith
+-- The verdict doesn't refuse for short memory.
+abbrev NotShort : Verdict → Type 0
+NotShort v = (n : ℕ) → v ≡ refuse ShortMemory n → ⊥
+
+-- Where a line's outcome is such, its verdict is where that of the lines behind it is.
+tried-not-short : (o : Outcome) (n : ℕ) (more : Verdict) → Early o → NotShort more → NotShort (tried o n more)
+tried-not-short Done n more f h = h
+tried-not-short (Refused c) n more f h = λ k e. let q : c ≡ ShortMemory = cc in omega (arith, f c refl, ap causeNumber q)
+
+-- The causes of a line behind the first.
+line-causes : (size count : ℕ) (last : Last) (l : Line)
+    → AllCauses (λ (c : Cause). causeNumber c ≤ 5) (lineTests size count last l)
+unfolding lineTests
+line-causes size count last (M a b c d e f) = (omega arith, tt)
+line-causes size count last (G pc p t) = (omega arith, (omega arith, tt))
+line-causes size count last (R k l v) = (omega arith, (omega arith, (omega arith, tt)))
+line-causes size count last (W k l v) = (omega arith, (omega arith, (omega arith, tt)))
+line-causes size count last Malformed = (omega arith, tt)
+
+judge-not-short : (r : Machine) (last : Last) (n : ℕ) (ls : List Line) → NotShort (judge r last n ls)
+unfolding judge
+judge-not-short r last n [] = λ k e. refuse-accept (sym e)
+judge-not-short r last n (l ∷ ls) =
+    let tests = lineTests (r .fixed .size) (r .fixed .count) last l in
+    tried-not-short (firstRefusal tests) n _
+    (some-cause (λ (c : Cause). causeNumber c ≤ 5) tests (line-causes (r .fixed .size) (r .fixed .count) last l))
+    (judge-not-short (withLine r l) (lastOf l) (n + 1) ls)
 
 -- The size of an M line in its ranges is at most 2,048.
-header-size : (size errorpc pc p t limit : ℕ) → headerInRange size errorpc pc p t limit ≡ true → size ≤ 2048
+header-size : (h : Header) → headerInRange h ≡ true → h .size ≤ 2048
 unfolding headerInRange
-header-size size errorpc pc p t limit e = let h = simp and-iff at e in leb-true size 2048 (h .0 .0 .0 .0 .0 .0 .1)
+header-size h e = let q = simp and-iff at e in leb-true (h .size) 2048 (q .0 .0 .0 .0 .0 .0 .1)
+
+-- A refusal by one of the causes 1 to 5.
+other : {c : Cause} {n k : ℕ} → causeNumber c ≤ 5 → refuse c n ≡ refuse ShortMemory k → ⊥
+other {c} h e = let q : c ≡ ShortMemory = cc in omega (arith, ap causeNumber q)
+
+settle-not-short : (v : Verdict) (ls : List Line) (m : Bank) → NotShort v → settle v ls m .outcome ≡ Refused ShortMemory → ⊥
+settle-not-short (refuse c n) ls m h e = let q : c ≡ ShortMemory = cc in h n (rw q refl)
+settle-not-short (accept r) ls m h e = done-or-refused refl e
 
 module _ (m : Bank) (words : 2048 ≤ length (m .values)) (labels : 2048 ≤ length (m .labels)) where
-  lent-enough : (size errorpc pc p t limit : ℕ) → headerInRange size errorpc pc p t limit ≡ true
-      → lentWhole (machineOfHeader size errorpc pc p t limit .fixed) (m .values) (m .labels) ≡ true
+  lent-enough : (h : Header) → headerInRange h ≡ true
+      → lentWhole (machineOfHeader h .fixed) (m .values) (m .labels) ≡ true
   unfolding lentWhole
-  lent-enough size errorpc pc p t limit e =
-      let h = header-size size errorpc pc p t limit e in
-      rw (le-leb size (length (m .values)) (omega arith), le-leb size (length (m .labels)) (omega arith))
+  lent-enough h e =
+      let s = header-size h e in
+      rw (le-leb (h .size) (length (m .values)) (omega arith), le-leb (h .size) (length (m .labels)) (omega arith))
 
-  lines-not-six : (ls : List Line) → NotSix (loadLines ls m)
-  lines-not-six [] = λ e. omega arith
-  lines-not-six (M size errorpc pc p t limit ∷ ls) =
-      choice NotSix (headerInRange size errorpc pc p t limit) _ _
-      (λ h.
-      choice NotSix (isValid (record { pc = p; timing = t })) _ _
+  header-early : (h : Header) → Early (firstRefusal (headerTests h m))
+  unfolding headerTests firstRefusal
+  header-early h =
+      choice Early (headerInRange h) _ _
+      (λ e.
+      choice Early (isValid (machineOfHeader h .control .pair)) _ _
       (λ v.
-      choice NotSix (lentWhole (machineOfHeader size errorpc pc p t limit .fixed) (m .values) (m .labels)) _ _
-      (λ l. settled-not-six _ ls m (judge-numbered _ 2 ls))
-      (λ l. clash (lent-enough size errorpc pc p t limit h) l))
-      (λ v e. omega arith))
-      (λ h e. omega arith)
-  lines-not-six (G a b c ∷ ls) = λ e. omega arith
-  lines-not-six (R a b c ∷ ls) = λ e. omega arith
-  lines-not-six (W a b c ∷ ls) = λ e. omega arith
-  lines-not-six (Malformed ∷ ls) = λ e. omega arith
+      choice Early (lentWhole (machineOfHeader h .fixed) (m .values) (m .labels)) _ _
+      (λ l c q. done-or-refused refl q)
+      (λ l. clash (lent-enough h e) l))
+      (λ v. early InvalidPair (omega arith)))
+      (λ e. early OutOfRange (omega arith))
+    where
+      early : (c : Cause) → causeNumber c ≤ 5 → Early (Refused c)
+      early c k d q = let p : c ≡ d = cc in rw (← p) k
 
-  -- Into 2,048 words and labels no load is refused with 6.
-  pub load-not-six : (text : List ℕ) → load text m .number ≡ 6 → ⊥
-  unfolding load
-  load-not-six text =
-      choice NotSix (leb 1 (length text) && leb (length text) 65535) _ _ (λ h. lines-not-six (lines text)) (λ h e. omega arith)
+  lines-not-short : (ls : List Line) → NotShort (judgeLines ls m)
+  unfolding judgeHeader
+  lines-not-short [] = λ k e. other {c = MalformedLine} (omega arith) e
+  lines-not-short (M size errorpc pc p t limit ∷ ls) =
+      let h : Header = record { size = size; errorpc = errorpc; pc = pc; p = p; t = t; limit = limit } in
+      tried-not-short (firstRefusal (headerTests h m)) 1 _ (header-early h) (judge-not-short _ _ 2 ls)
+  lines-not-short (G a b c ∷ ls) = λ k e. other {c = MalformedLine} (omega arith) e
+  lines-not-short (R a b c ∷ ls) = λ k e. other {c = MalformedLine} (omega arith) e
+  lines-not-short (W a b c ∷ ls) = λ k e. other {c = MalformedLine} (omega arith) e
+  lines-not-short (Malformed ∷ ls) = λ k e. other {c = MalformedLine} (omega arith) e
+
+  -- Into 2,048 words and labels no load is refused for short memory.
+  pub load-not-short : (text : List ℕ) → load text m .outcome ≡ Refused ShortMemory → ⊥
+  unfolding load judgeText
+  load-not-short text =
+      settle-not-short _ (lines text) m
+      (choice NotShort (leb 1 (length text) && leb (length text) 65535) _ _ (λ h. lines-not-short (lines text)) (λ h k e. other {c = TextLength} (omega arith) e))
 
 -- A loaded state is ready.
 pub loaded-ready : (s : State) → Loaded s → Ready s

@@ -3,17 +3,20 @@
 -- Assumes nothing.
 use Prim.Native.Nat.{ℕ}
 use mathlib.Core.Path.{_≡_}
-use mathlib.Core.Bool.{true, cond}
-use mathlib.Core.List.{List, _++_}
+use mathlib.Core.Bool.{true}
+use mathlib.Core.List.{List}
 use lib.Dec.{leb}
-use lib.ListN.{length, drop}
+use lib.ListN.{length}
 use borrow.Author.Tests.{le-leb}
+use Rattle.causes.specs.declared.Cause.the-variants.{ShortOutput}
+use Rattle.causes.specs.declared.Outcome.the-variants.{Done}
+use Rattle.causes.specs.Tests.{unless}
 use Rattle.model.specs.Record.{Bank, State, machineOf}
 use Rattle.model.specs.WellFormed.{lentWhole}
 use Rattle.model.specs.Step.{run}
 use Rattle.model.specs.Answer.{answer, done, runAnswer}
 use Rattle.model.specs.Load.{load}
-use Rattle.model.specs.Listing.{listing, notPrinted, print}
+use Rattle.model.specs.Listing.{listing, notPrinted, printed, print}
 use Rattle.model.specs.Program.{stateOfLoad}
 use Rattle.model.proofs.WellFormed.{fits}
 use Rattle.model.proofs.Step.{Ready}
@@ -33,15 +36,14 @@ run-done s r = rw (fits s (r .fit), lent s r)
 -- A ready state is printed unless the output is too short.
 pub print-done : (s : State) (out : List ℕ) → Ready s
     → print (machineOf s) (s .memory) out
-    ≡ cond (leb (length (listing s)) (length out))
-    (record { number = 0; machine = machineOf s; bytes = length (listing s); output = listing s ++ drop (length (listing s)) out })
-    (notPrinted 8 (machineOf s) out)
+    ≡ unless (leb (length (listing s)) (length out)) (notPrinted ShortOutput (machineOf s) out)
+    (printed (machineOf s) (listing s) out)
 unfolding print
 print-done s out r = rw (fits s (r .fit), lent s r)
 
 -- The state that an accepted load leaves is ready, and so is the one after its run.
-pub load-ready : (text : List ℕ) (m : Bank) → load text m .number ≡ 0 → Ready (stateOfLoad (load text m))
+pub load-ready : (text : List ℕ) (m : Bank) → load text m .outcome ≡ Done → Ready (stateOfLoad (load text m))
 load-ready text m e = loaded-ready (stateOfLoad (load text m)) (load-loaded text m e)
 
-pub run-load-ready : (text : List ℕ) (m : Bank) → load text m .number ≡ 0 → Ready (run (stateOfLoad (load text m)))
+pub run-load-ready : (text : List ℕ) (m : Bank) → load text m .outcome ≡ Done → Ready (run (stateOfLoad (load text m)))
 run-load-ready text m e = run-ready (stateOfLoad (load text m)) (load-ready text m e)

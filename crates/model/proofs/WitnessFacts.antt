@@ -22,7 +22,8 @@ use Rattle.model.specs.Ops.{isLabel, significantBits, multiplyTicks, noG
 use Rattle.model.specs.Step.{fetch, endTick, finish, fault, attempt, beyondLimit, inLimit, running, decide, written, causeAllowed, causeWrite, writeOf, restored, changed, controlAfter, apply, step, steps, run}
 use Rattle.model.specs.Answer.{answer}
 use Rattle.model.specs.Text.{isDigit, digits, decimalFrom, wellWritten, number, field, triple, readLine, linesIn, lines}
-use Rattle.model.specs.Load.{headerInRange, gateInRange, entryInRange, leastOf, judge, cleared, fill, load}
+use Rattle.causes.specs.Tests.{firstRefusal}
+use Rattle.model.specs.Load.{headerInRange, gateInRange, entryInRange, inOrder, rising, headerTests, lineTests, judge, judgeHeader, judgeText, cleared, fill, load}
 use Rattle.model.specs.Listing.{decimalIn, decimal, fields, line, differs, entryLine, entryLines}
 use Rattle.model.specs.Program.{stateOfLoad}
 use Rattle.model.specs.Seen.{within, exists, Seen, hidden, shown, seenAt, SeenControl, unseen, seen, seenControl, LowEquivalent}
@@ -237,7 +238,7 @@ from-texts ℓ k s t l m =
     → reached k x (trace qs x) ≡ true → reached k y (trace rs y) ≡ true
     → LowEquivalent ℓ (atTick k x (trace qs x)) (atTick k y (trace rs y)))
     (ap stateOfLoad l) (ap stateOfLoad m)
-    (noninterference ℓ k (textOf s) (textOf t) (s .memory) (t .memory) (ap (λ a. a .number) l) (ap (λ a. a .number) m))
+    (noninterference ℓ k (textOf s) (textOf t) (s .memory) (t .memory) (ap (λ a. a .outcome) l) (ap (λ a. a .outcome) m))
 
 -- Two machines of one fixed part that load, start alike and qualify are alike at k.
 pub alike-at : (ℓ k : ℕ) (s t : State) (qs rs : List Invocation) → Loads s → Loads t → s .fixed ≡ t .fixed
@@ -273,7 +274,7 @@ counterexample ℓ k s t qs met l m e p q =
 
 -- All that a table computes with: the definitions of labels too. Who says `unfolding computing` opens each of them.
 unfoldable pub computing : Bool
-unfolding subset label integrity confidentiality flows join meet reflection uncompromised validPair lowest mayRaise mayRelabel newest inUpcall valueAt labelAt fixedInRange endInRange upcallWellFormed wellFormed lentWhole opField aField bField cField dField nField decode compute isLabel significantBits multiplyTicks newPairAllowed mayUpcall mayCallGate mayReturn table fetch endTick finish fault attempt beyondLimit inLimit running decide written causeAllowed causeWrite writeOf restored changed controlAfter apply step steps run answer within exists seenAt seenControl lend regain answered after runStates workStates callStates trace final atTick reached downgrades gateCallsIn timedFromOutside sameSeen samePair sameCall sameControl sameSeenControl leadingZeros isDigit digits decimalFrom wellWritten number field triple readLine linesIn lines headerInRange gateInRange entryInRange leastOf judge cleared fill load decimalIn decimal fields line differs entryLine entryLines
+unfolding subset label integrity confidentiality flows join meet reflection uncompromised validPair lowest mayRaise mayRelabel newest inUpcall valueAt labelAt fixedInRange endInRange upcallWellFormed wellFormed lentWhole opField aField bField cField dField nField decode compute isLabel significantBits multiplyTicks newPairAllowed mayUpcall mayCallGate mayReturn table fetch endTick finish fault attempt beyondLimit inLimit running decide written causeAllowed causeWrite writeOf restored changed controlAfter apply step steps run answer within exists seenAt seenControl lend regain answered after runStates workStates callStates trace final atTick reached downgrades gateCallsIn timedFromOutside sameSeen samePair sameCall sameControl sameSeenControl leadingZeros isDigit digits decimalFrom wellWritten number field triple readLine linesIn lines headerInRange gateInRange entryInRange inOrder rising headerTests lineTests firstRefusal judge judgeHeader judgeText cleared fill load decimalIn decimal fields line differs entryLine entryLines
 computing = true
 
 -- The two machines of the main witness differ as their table says, at a sound label and at one that isn't.

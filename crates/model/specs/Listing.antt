@@ -7,6 +7,11 @@ use mathlib.Core.List.{List, [], _∷_, _++_}
 use lib.Dec.{leb, ltb, eqb}
 use lib.ListN.{length, drop, getD}
 use Rattle.labels.specs.Label.{lowest}
+use Rattle.causes.specs.declared.Cause.{Cause}
+use Rattle.causes.specs.declared.Cause.the-variants.{ShortMemory, IllFormed, ShortOutput}
+use Rattle.causes.specs.declared.Outcome.{Outcome}
+use Rattle.causes.specs.declared.Outcome.the-variants.{Done, Refused}
+use Rattle.causes.specs.Tests.{unless}
 use Rattle.model.specs.declared.Call.{Call}
 use Rattle.model.specs.declared.Call.the-variants.{Empty, Gate, Upcall}
 use Rattle.model.specs.Record.{Bank, Machine, State, stateOf}
@@ -69,26 +74,26 @@ listing s =
 
 -- ---- the answer
 
--- The answer of print: the refusal's number, or 0; the record; the listing's length, or 0; and the output at exit.
+-- The answer of print: its outcome; the record; the listing's length, or 0; and the output at exit.
 pub record Printing : Type 0 where
-  pub number : ℕ
+  pub outcome : Outcome
   pub machine : Machine
   pub bytes : ℕ
   pub output : List ℕ
 
 -- A refusal leaves the output.
-abbrev pub notPrinted : ℕ → Machine → List ℕ → Printing
-notPrinted number r out = record { number = number; machine = r; bytes = 0; output = out }
+abbrev pub notPrinted : Cause → Machine → List ℕ → Printing
+notPrinted cause r out = record { outcome = Refused cause; machine = r; bytes = 0; output = out }
+
+-- The listing is written, and output beyond it stays.
+abbrev pub printed : Machine → List ℕ → List ℕ → Printing
+printed r text out = record { outcome = Done; machine = r; bytes = length text; output = text ++ drop (length text) out }
 
 -- Print: 7 where the record is not fit, 6 where lent words or labels are shorter than the size, 8 where the output is
--- shorter than the listing. Output beyond the listing stays.
+-- shorter than the listing.
 unfoldable pub print : Machine → Bank → List ℕ → Printing
 print r m out =
     let text = listing (stateOf r m) in
-    cond (wellFormed r)
-    (cond (lentWhole (r .fixed) (m .values) (m .labels))
-    (cond (leb (length text) (length out))
-    (record { number = 0; machine = r; bytes = length text; output = text ++ drop (length text) out })
-    (notPrinted 8 r out))
-    (notPrinted 6 r out))
-    (notPrinted 7 r out)
+    unless (wellFormed r) (notPrinted IllFormed r out)
+    (unless (lentWhole (r .fixed) (m .values) (m .labels)) (notPrinted ShortMemory r out)
+    (unless (leb (length text) (length out)) (notPrinted ShortOutput r out) (printed r text out)))

@@ -2,14 +2,23 @@
 -- leaves the lent words and labels; an accepted text sets all that lie below the size.
 -- Assumes nothing.
 use Prim.Native.Nat.{ℕ, _+_, _^_}
-use mathlib.Core.Bool.{Bool, true, _&&_, cond}
+use mathlib.Core.Bool.{Bool, false, not, _&&_, _||_}
 use mathlib.Core.List.{List, [], _∷_, _++_}
 use lib.Dec.{leb, ltb, eqb}
 use lib.ListN.{length, drop, set, replicate}
 use Rattle.labels.specs.Label.{lowest}
+use Rattle.causes.specs.declared.Cause.{Cause}
+use Rattle.causes.specs.declared.Cause.the-variants.{TextLength, MalformedLine, OutOfRange, OutOfOrder, InvalidPair, ShortMemory}
+use Rattle.causes.specs.declared.Outcome.{Outcome}
+use Rattle.causes.specs.declared.Outcome.the-variants.{Done, Refused}
+use Rattle.causes.specs.Tests.{unless, Test, _orElse_, firstRefusal}
 use Rattle.model.specs.declared.Call.the-variants.{Empty}
 use Rattle.model.specs.declared.format.Line.{Line}
 use Rattle.model.specs.declared.format.Line.the-variants.{M, G, R, W, Malformed}
+use Rattle.model.specs.declared.judging.Kind.{Kind}
+use Rattle.model.specs.declared.judging.Kind.the-variants.{HeaderLine, GateLine, RegisterLine, WordLine}
+use Rattle.model.specs.declared.judging.Last.{Last}
+use Rattle.model.specs.declared.judging.Header.{Header}
 use Rattle.model.specs.Record.{Bank, Machine}
 use Rattle.model.specs.WellFormed.{isValid, lentWhole}
 use Rattle.model.specs.Ops.{isLabel, noGate}
@@ -22,13 +31,13 @@ abbrev pub blank : ℕ → Bank
 blank n = record { values = replicate n 0; labels = replicate n lowest }
 
 -- The record of an M line: clock, end and why at 0, no open call, no gate yet, all registers blank.
-abbrev pub machineOfHeader : ℕ → ℕ → ℕ → ℕ → ℕ → ℕ → Machine
-machineOfHeader size errorpc pc p t limit =
+abbrev pub machineOfHeader : Header → Machine
+machineOfHeader h =
     record {
-      fixed = record { size = size; limit = limit; errorpc = errorpc; count = 0; gates = replicate 8 noGate };
+      fixed = record { size = h .size; limit = h .limit; errorpc = h .errorpc; count = 0; gates = replicate 8 noGate };
       control =
           record
-          { pc = pc; pair = record { pc = p; timing = t }; clock = 0; first = Empty; second = Empty; end = 0; why = 0 };
+          { pc = h .pc; pair = record { pc = h .p; timing = h .t }; clock = 0; first = Empty; second = Empty; end = 0; why = 0 };
       registers = blank 16;
     }
 
@@ -56,13 +65,21 @@ withEntry b k l v = record { values = set (b .values) k v; labels = set (b .labe
 abbrev pub withRegister : Machine → ℕ → ℕ → ℕ → Machine
 withRegister r k l v = record { fixed = r .fixed; control = r .control; registers = withEntry (r .registers) k l v }
 
+-- The record with what a line says of it. The words are written later.
+abbrev pub withLine : Machine → Line → Machine
+withLine r (M a b c d e f) = r
+withLine r (G pc p t) = withGate r pc p t
+withLine r (R k l v) = withRegister r k l v
+withLine r (W k l v) = r
+withLine r Malformed = r
+
 -- ---- the lines judged
 
 -- The numbers of an M line are in their ranges.
-unfoldable pub headerInRange : ℕ → ℕ → ℕ → ℕ → ℕ → ℕ → Bool
-headerInRange size errorpc pc p t limit =
-    leb 1 size && leb size 2048 && ltb errorpc (2 ^ 32) && ltb pc (2 ^ 32) && isLabel p && isLabel t && leb 1 limit
-    && leb limit (2 ^ 24)
+unfoldable pub headerInRange : Header → Bool
+headerInRange h =
+    leb 1 (h .size) && leb (h .size) 2048 && ltb (h .errorpc) (2 ^ 32) && ltb (h .pc) (2 ^ 32) && isLabel (h .p)
+    && isLabel (h .t) && leb 1 (h .limit) && leb (h .limit) (2 ^ 24)
 
 -- The numbers of a G line are in their ranges, and it isn't the ninth.
 unfoldable pub gateInRange : ℕ → ℕ → ℕ → ℕ → Bool
@@ -72,41 +89,95 @@ gateInRange count pc p t = ltb pc (2 ^ 32) && isLabel p && isLabel t && ltb coun
 unfoldable pub entryInRange : ℕ → ℕ → ℕ → ℕ → Bool
 entryInRange bound k l v = ltb k bound && isLabel l && ltb v (2 ^ 32)
 
--- How far the lines have come: the record so far; the kind of the last line (1 for M or G, 2 for R, 3 for W); and the
--- least number that a line of that kind may have.
-pub record Progress : Type 0 where
-  pub machine : Machine
-  pub kind : ℕ
-  pub least : ℕ
+-- The kinds in their order.
+abbrev pub rank : Kind → ℕ
+rank HeaderLine = 0
+rank GateLine = 1
+rank RegisterLine = 2
+rank WordLine = 3
 
--- The least number that a line of this kind may have: numbers and addresses rise.
-unfoldable pub leastOf : Progress → ℕ → ℕ
-leastOf g kind = cond (eqb (g .kind) kind) (g .least) 0
+-- A line of this kind is in order behind the last one.
+unfoldable pub inOrder : Last → Kind → Bool
+inOrder last kind = leb (rank (last .kind)) (rank kind)
 
--- What judging the lines gives: a refusal with its number and line, or the record.
+-- The number of a line of this kind is rising: above that of the last line, where that is of the same kind.
+unfoldable pub rising : Last → Kind → ℕ → Bool
+rising last kind k = not (eqb (rank (last .kind)) (rank kind)) || ltb (last .number) k
+
+-- The tests of the M line: 3, 5 (its pair), 6 (lent memory).
+unfoldable pub headerTests : Header → Bank → List Test
+headerTests h m =
+    headerInRange h orElse OutOfRange
+    ∷ isValid (machineOfHeader h .control .pair) orElse InvalidPair
+    ∷ lentWhole (machineOfHeader h .fixed) (m .values) (m .labels) orElse ShortMemory
+    ∷ []
+
+-- The tests of a line behind it, for a machine of this size with so many gates so far: 2, 4 (kind), 3, 4 (rising). No
+-- second M line is in order.
+unfoldable pub lineTests : ℕ → ℕ → Last → Line → List Test
+lineTests size count last (M a b c d e f) = false orElse OutOfOrder ∷ []
+lineTests size count last (G pc p t) =
+    inOrder last GateLine orElse OutOfOrder
+    ∷ gateInRange count pc p t orElse OutOfRange
+    ∷ []
+lineTests size count last (R k l v) =
+    inOrder last RegisterLine orElse OutOfOrder
+    ∷ entryInRange 16 k l v orElse OutOfRange
+    ∷ rising last RegisterLine k orElse OutOfOrder
+    ∷ []
+lineTests size count last (W k l v) =
+    inOrder last WordLine orElse OutOfOrder
+    ∷ entryInRange size k l v orElse OutOfRange
+    ∷ rising last WordLine k orElse OutOfOrder
+    ∷ []
+lineTests size count last Malformed = false orElse MalformedLine ∷ []
+
+-- What the line behind the M line is tried against.
+abbrev pub behindHeader : Last
+behindHeader = record { kind = HeaderLine; number = 0 }
+
+-- What the line behind this one is tried against.
+abbrev pub lastOf : Line → Last
+lastOf (M a b c d e f) = behindHeader
+lastOf (G pc p t) = record { kind = GateLine; number = 0 }
+lastOf (R k l v) = record { kind = RegisterLine; number = k }
+lastOf (W k l v) = record { kind = WordLine; number = k }
+lastOf Malformed = behindHeader
+
+-- What judging the lines gives: a refusal with its cause and line, or the record.
 pub data Verdict : Type 0 where
-  refuse : ℕ → ℕ → Verdict
+  refuse : Cause → ℕ → Verdict
   accept : Machine → Verdict
 
--- Line n is tried for 4 (kind out of order), 3 (a number outside its range), 4 (number not rising).
-abbrev pub tried : Progress → ℕ → ℕ → Bool → Bool → Verdict → Verdict
-tried g n kind inRange rising more =
-    cond (leb (g .kind) kind) (cond inRange (cond rising more (refuse 4 n)) (refuse 3 n)) (refuse 4 n)
+-- The verdict on line n and those behind it, by the outcome of its tests.
+abbrev pub tried : Outcome → ℕ → Verdict → Verdict
+tried Done n more = more
+tried (Refused cause) n more = refuse cause n
 
--- The lines behind the first, the next of which is line n. A malformed line is 2, a second M is 4.
-unfoldable pub judge : Progress → ℕ → List Line → Verdict
-judge g n [] = accept (g .machine)
-judge g n (M a b c d e f ∷ ls) = refuse 4 n
-judge g n (G pc p t ∷ ls) =
-    tried g n 1 (gateInRange (g .machine .fixed .count) pc p t) true
-    (judge (record { machine = withGate (g .machine) pc p t; kind = 1; least = 0 }) (n + 1) ls)
-judge g n (R k l v ∷ ls) =
-    tried g n 2 (entryInRange 16 k l v) (leb (leastOf g 2) k)
-    (judge (record { machine = withRegister (g .machine) k l v; kind = 2; least = k + 1 }) (n + 1) ls)
-judge g n (W k l v ∷ ls) =
-    tried g n 3 (entryInRange (g .machine .fixed .size) k l v) (leb (leastOf g 3) k)
-    (judge (record { machine = g .machine; kind = 3; least = k + 1 }) (n + 1) ls)
-judge g n (Malformed ∷ ls) = refuse 2 n
+-- The verdict on the lines behind the first, the next of which is line n.
+unfoldable pub judge : Machine → Last → ℕ → List Line → Verdict
+judge r last n [] = accept r
+judge r last n (l ∷ ls) =
+    tried (firstRefusal (lineTests (r .fixed .size) (r .fixed .count) last l)) n (judge (withLine r l) (lastOf l) (n + 1) ls)
+
+-- The verdict on an M line and the lines behind it.
+unfoldable pub judgeHeader : Header → List Line → Bank → Verdict
+judgeHeader h ls m = tried (firstRefusal (headerTests h m)) 1 (judge (machineOfHeader h) behindHeader 2 ls)
+
+-- The verdict on all lines. The first must be M, else it is 2.
+abbrev pub judgeLines : List Line → Bank → Verdict
+judgeLines [] m = refuse MalformedLine 1
+judgeLines (M size errorpc pc p t limit ∷ ls) m =
+    judgeHeader (record { size = size; errorpc = errorpc; pc = pc; p = p; t = t; limit = limit }) ls m
+judgeLines (G a b c ∷ ls) m = refuse MalformedLine 1
+judgeLines (R a b c ∷ ls) m = refuse MalformedLine 1
+judgeLines (W a b c ∷ ls) m = refuse MalformedLine 1
+judgeLines (Malformed ∷ ls) m = refuse MalformedLine 1
+
+-- The verdict on a text: one that is empty or above 65,535 bytes is 1, with line 0.
+unfoldable pub judgeText : List ℕ → Bank → Verdict
+judgeText text m =
+    unless (leb 1 (length text) && leb (length text) 65535) (refuse TextLength 0) (judgeLines (lines text) m)
 
 -- ---- memory
 
@@ -115,55 +186,38 @@ unfoldable pub cleared : ℕ → Bank → Bank
 cleared size m =
     record { values = replicate size 0 ++ drop size (m .values); labels = replicate size lowest ++ drop size (m .labels) }
 
--- The words of the W lines set.
+-- The memory with what a line says of it: the word of a W line set.
+abbrev pub withWord : Bank → Line → Bank
+withWord m (M a b c d e f) = m
+withWord m (G pc p t) = m
+withWord m (R k l v) = m
+withWord m (W k l v) = withEntry m k l v
+withWord m Malformed = m
+
+-- The words of all lines set, one after the other.
 unfoldable pub fill : List Line → Bank → Bank
 fill [] m = m
-fill (M a b c d e f ∷ ls) m = fill ls m
-fill (G pc p t ∷ ls) m = fill ls m
-fill (R k l v ∷ ls) m = fill ls m
-fill (W k l v ∷ ls) m = fill ls (withEntry m k l v)
-fill (Malformed ∷ ls) m = fill ls m
+fill (l ∷ ls) m = fill ls (withWord m l)
 
 -- ---- the answer
 
--- The answer of load: the refusal's number, or 0; its line; the record; and the lent memory at exit.
+-- The answer of load: its outcome; the refusal's line, or 0; the record; and the lent memory at exit.
 pub record Loading : Type 0 where
-  pub number : ℕ
+  pub outcome : Outcome
   pub line : ℕ
   pub machine : Machine
   pub memory : Bank
 
 -- What stands beside a refusal: a record of size 0, which is not well-formed.
 abbrev pub noMachine : Machine
-noMachine = machineOfHeader 0 0 0 0 0 0
+noMachine = machineOfHeader (record { size = 0; errorpc = 0; pc = 0; p = 0; t = 0; limit = 0 })
 
--- A refusal leaves words and labels.
-abbrev pub refusal : ℕ → ℕ → Bank → Loading
-refusal number line m = record { number = number; line = line; machine = noMachine; memory = m }
-
--- The answer after the verdict on the lines behind the first.
+-- The answer by the verdict. A refusal leaves words and labels.
 abbrev pub settle : Verdict → List Line → Bank → Loading
-settle (refuse number line) ls m = refusal number line m
-settle (accept r) ls m = record { number = 0; line = 0; machine = r; memory = fill ls (cleared (r .fixed .size) m) }
+settle (refuse cause line) ls m = record { outcome = Refused cause; line = line; machine = noMachine; memory = m }
+settle (accept r) ls m =
+    record { outcome = Done; line = 0; machine = r; memory = fill ls (cleared (r .fixed .size) m) }
 
--- The first line must be M. It is tried for 3, then 5 (its pair is not valid); 6 (lent memory too short) follows line 1,
--- before line 2.
-abbrev pub loadLines : List Line → Bank → Loading
-loadLines [] m = refusal 2 1 m
-loadLines (M size errorpc pc p t limit ∷ ls) m =
-    let r = machineOfHeader size errorpc pc p t limit in
-    cond (headerInRange size errorpc pc p t limit)
-    (cond (isValid (record { pc = p; timing = t }))
-    (cond (lentWhole (r .fixed) (m .values) (m .labels))
-    (settle (judge (record { machine = r; kind = 1; least = 0 }) 2 ls) ls m)
-    (refusal 6 1 m))
-    (refusal 5 1 m))
-    (refusal 3 1 m)
-loadLines (G a b c ∷ ls) m = refusal 2 1 m
-loadLines (R a b c ∷ ls) m = refusal 2 1 m
-loadLines (W a b c ∷ ls) m = refusal 2 1 m
-loadLines (Malformed ∷ ls) m = refusal 2 1 m
-
--- Load: a text that is empty or above 65,535 bytes is 1, with line 0.
+-- Load.
 unfoldable pub load : List ℕ → Bank → Loading
-load text m = cond (leb 1 (length text) && leb (length text) 65535) (loadLines (lines text) m) (refusal 1 0 m)
+load text m = settle (judgeText text m) (lines text) m

@@ -5,9 +5,11 @@ use Prim.Native.Nat.{ℕ, zero, suc, _+_, _-_, _<_, _≤_, min}
 use mathlib.Core.Path.{_≡_}
 use mathlib.Core.Bool.{Bool, true, false, not, _&&_, _||_, cond}
 use mathlib.Core.List.{List, [], _∷_, _++_}
-use lib.Dec.{leb, ltb, eqb}
+use lib.Dec.{leb, ltb}
 use lib.ListN.{take, drop, getD}
 use lib.Seq.{sets}
+use Rattle.causes.specs.declared.Outcome.the-variants.{Done}
+use Rattle.causes.specs.Causes.{isDone}
 use Rattle.model.specs.declared.Call.the-variants.{Empty}
 use Rattle.model.specs.Record.{Bank, Machine, State, Location, machineOf, stateOf, labelAt}
 use Rattle.model.specs.WellFormed.{wellFormed, lentWhole}
@@ -83,7 +85,7 @@ workStates runCall s = runStates (s .fixed .limit - s .control .clock + 1) s
 
 -- The states that a call adds to the trace: a refused one adds none.
 unfoldable pub callStates : Invocation → State → List State
-callStates q s = cond (eqb (answered q s .number) 0) (workStates (q .kind) s) []
+callStates q s = cond (isDone (answered q s .outcome)) (workStates (q .kind) s) []
 
 -- The trace of a sequence of calls: the states after the loaded one, one for each step done.
 unfoldable pub trace : List Invocation → State → List State
@@ -186,7 +188,7 @@ FromLoadedStates =
 
 -- The load is accepted.
 abbrev pub Accepted : Loading → Type 0
-Accepted a = a .number ≡ 0
+Accepted a = a .outcome ≡ Done
 
 -- The third demand. Take any label ℓ, any tick k, and any two texts that load accepts, each in its own lent memory, whose
 -- states have equal setting and are alike at or below ℓ. Whatever sequences of calls the two then get, the same or not: if

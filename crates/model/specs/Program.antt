@@ -3,8 +3,9 @@
 use Prim.Native.Nat.{ℕ}
 use mathlib.Core.Bool.{cond}
 use mathlib.Core.List.{List, [], _∷_, _++_}
-use lib.Dec.{leb, eqb}
+use lib.Dec.{leb}
 use lib.ListN.{length, drop, replicate}
+use Rattle.causes.specs.Causes.{numberOf, isDone}
 use Rattle.model.specs.Record.{Bank, State, stateOf}
 use Rattle.model.specs.Step.{run}
 use Rattle.model.specs.Load.{Loading, load}
@@ -16,11 +17,12 @@ stateOfLoad a = stateOf (a .machine) (a .memory)
 
 -- What is printed after a load: the listing of the run to the end; for a refusal `X,number,line`.
 unfoldable pub reply : Loading → List ℕ
-reply a = cond (eqb (a .number) 0) (listing (run (stateOfLoad a))) (line 88 (a .number ∷ a .line ∷ []))
+reply a =
+    cond (isDone (a .outcome)) (listing (run (stateOfLoad a))) (line 88 (numberOf (a .outcome) ∷ a .line ∷ []))
 
 -- The memory after it.
 unfoldable pub memoryAfter : Loading → Bank
-memoryAfter a = cond (eqb (a .number) 0) (run (stateOfLoad a) .memory) (a .memory)
+memoryAfter a = cond (isDone (a .outcome)) (run (stateOfLoad a) .memory) (a .memory)
 
 -- A firing: how many bytes were written, the output and the lent memory at exit.
 pub record Firing : Type 0 where

@@ -7,6 +7,7 @@ use mathlib.Core.Option.{Option, none, some}
 use lib.Dec.{ltb, eqb}
 use lib.ListN.{set}
 use Rattle.labels.specs.Label.{flows}
+use Rattle.causes.specs.Tests.{unless}
 use Rattle.model.specs.declared.Pair.{Pair}
 use Rattle.model.specs.declared.Control.{Control}
 use Rattle.model.specs.declared.Call.{Call}
@@ -35,11 +36,9 @@ fetchAllowed s = flows (labelAt s (word (s .control .pc))) (s .control .pair .pc
 -- (3), tried in that order.
 unfoldable pub fetch : State → Fetched
 fetch s =
-    cond (ltb (s .control .pc) (s .fixed .size))
-    (cond (fetchAllowed s)
-    (known (valueAt s (word (s .control .pc))) (decode (opField (valueAt s (word (s .control .pc))))))
-    (failed 2))
-    (failed 1)
+    unless (ltb (s .control .pc) (s .fixed .size)) (failed 1)
+    (unless (fetchAllowed s) (failed 2)
+    (known (valueAt s (word (s .control .pc))) (decode (opField (valueAt s (word (s .control .pc)))))))
 
 -- ---- the first stage: what a step would do
 

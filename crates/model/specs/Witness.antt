@@ -9,6 +9,7 @@ use mathlib.Core.List.{List, [], _∷_, _++_}
 use lib.Dec.{leb, eqb}
 use lib.ListN.{length, take, replicate}
 use Rattle.labels.specs.Label.{uncompromised, lowest}
+use Rattle.causes.specs.declared.Outcome.the-variants.{Done}
 use Rattle.model.specs.declared.Pair.{Pair}
 use Rattle.model.specs.declared.CallGate.{CallGate}
 use Rattle.model.specs.declared.Fixed.{Fixed}
@@ -129,7 +130,7 @@ textOf s =
 -- Load accepts that text, lent the state's own memory, and leaves the state.
 abbrev pub Loads : State → Type 0
 Loads s =
-    load (textOf s) (s .memory) ≡ record { number = 0; line = 0; machine = machineOf s; memory = s .memory }
+    load (textOf s) (s .memory) ≡ record { outcome = Done; line = 0; machine = machineOf s; memory = s .memory }
 
 -- The theorem without some hypothesis would be false: two machines that are loaded and start alike, each getting the calls
 -- qs, reach k and are not alike there. The list says which of the three provisos hold, for either machine.

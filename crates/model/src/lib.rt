@@ -2,6 +2,7 @@
 // the laws about them, in proofs/. The crate `machine` puts the parts together and runs them.
 
 pub mod format;
+pub mod judging;
 
 // A pc label and a timing label (the paper's place label p and clock label t).
 pub struct Pair {

@@ -7,6 +7,8 @@ use mathlib.Core.List.{List}
 use lib.Dec.{leb}
 use lib.ListN.{length}
 use borrow.Author.Tests.{le-leb, lt-leb, leb-true}
+use Rattle.causes.specs.declared.Cause.the-variants.{ShortMemory, IllFormed, ShortOutput}
+use Rattle.causes.specs.declared.Outcome.the-variants.{Done}
 use Rattle.model.specs.Record.{Bank, Machine, stateOf}
 use Rattle.model.specs.WellFormed.{wellFormed, lentWhole}
 use Rattle.model.specs.Listing.{listing, Printing, notPrinted, print}
@@ -20,14 +22,14 @@ module _ (r : Machine) (m : Bank) (out : List ℕ) where
 
   -- 8 where the output is shorter than the listing.
   pub short-output : (count : ℕ) → count ≡ length (listing (stateOf r m)) → length out < count
-      → notPrinted 8 r out ≡ printedWhole r m out
+      → notPrinted ShortOutput r out ≡ printedWhole r m out
   unfolding printedWhole
   short-output count e l = rw (lt-leb (length (listing (stateOf r m))) (length out) (rw e at l))
 
   -- The listing, written.
   pub listed : {after : List ℕ} {n : ℕ} (count : ℕ) → count ≡ length (listing (stateOf r m))
       → Wrote (listing (stateOf r m)) out n after
-      → record { number = 0; machine = r; bytes = count; output = after } ≡ printedWhole r m out
+      → record { outcome = Done; machine = r; bytes = count; output = after } ≡ printedWhole r m out
   unfolding printedWhole over
   listed count e w = rw (le-leb (length (listing (stateOf r m))) (length out) (w .fits), e, w .output)
 
@@ -35,7 +37,7 @@ module _ (r : Machine) (m : Bank) (out : List ℕ) where
 
   -- 7 where the record is not well-formed.
   pub ill-formed : (b : Bool) → b ≡ wellFormed r → b ≡ false
-      → notPrinted 7 r out ≡ print r m out
+      → notPrinted IllFormed r out ≡ print r m out
   unfolding print
   ill-formed b e f = rw ((sym e), f)
 
@@ -47,7 +49,7 @@ module _ (r : Machine) (m : Bank) (out : List ℕ) where
     -- 6 where lent words or labels are shorter than the size.
     pub short-memory : (w : Bool)
         → w ≡ (leb (r .fixed .size) (length (m .values)) && leb (r .fixed .size) (length (m .labels)))
-        → w ≡ false → notPrinted 6 r out ≡ print r m out
+        → w ≡ false → notPrinted ShortMemory r out ≡ print r m out
     unfolding print lentWhole
     short-memory w h f = rw ((sym e), t, ← h, f)
 

@@ -1,29 +1,24 @@
--- What print answers, in the paper's numbers and values, and the lines of which its code writes a listing.
+-- What print answers, in the model's terms, and the lines of which its code writes a listing.
 -- Assumes nothing.
 use Prim.Native.Nat.{ℕ, _≤_}
 use mathlib.Core.Bool.{Bool, not, _&&_, cond}
 use mathlib.Core.List.{List, [], _∷_, _++_}
 use lib.Dec.{leb, eqb}
-use lib.ListN.{length, drop}
+use lib.ListN.{length}
 use Rattle.labels.specs.Label.{lowest}
+use Rattle.causes.specs.declared.Cause.the-variants.{ShortOutput}
+use Rattle.causes.specs.Tests.{unless}
 use Rattle.model.specs.declared.Control.{Control}
 use Rattle.model.specs.declared.Pair.{Pair}
 use Rattle.model.specs.Record.{Bank, Machine, State, stateOf}
-use Rattle.model.specs.Listing.{line, callLine, listing, Printing, notPrinted}
+use Rattle.model.specs.Listing.{line, callLine, listing, Printing, notPrinted, printed}
 use Rattle.machine.specs.declared.Machine as struct
 use Rattle.machine.specs.Answered.{recordOf}
-use Rattle.answers.specs.Print.{numberOf, lengthOf}
 use Rattle.printer.specs.declared.Printed.{Printed}
 
--- The answer of print: number, record, length, and the output at exit.
+-- The answer of print: outcome, record, length, and the output at exit.
 abbrev pub printingOf : Printed → List ℕ → Printing
-printingOf r out =
-    record {
-      number = numberOf (r .outcome);
-      machine = recordOf (r .machine);
-      bytes = lengthOf (r .outcome);
-      output = out;
-    }
+printingOf r out = record { outcome = r .outcome; machine = recordOf (r .machine); bytes = r .bytes; output = out }
 
 -- Lent words and labels.
 abbrev pub lent : List ℕ → List ℕ → Bank
@@ -37,9 +32,7 @@ stateWith m words labels = stateOf (recordOf m) (lent words labels)
 unfoldable pub printedWhole : Machine → Bank → List ℕ → Printing
 printedWhole r m out =
     let text = listing (stateOf r m) in
-    cond (leb (length text) (length out))
-    (record { number = 0; machine = r; bytes = length text; output = text ++ drop (length text) out })
-    (notPrinted 8 r out)
+    unless (leb (length text) (length out)) (notPrinted ShortOutput r out) (printed r text out)
 
 -- There are so many entries, and no more than a machine has words.
 pub record Entries (values labels : List ℕ) (count : ℕ) : Type 0 where

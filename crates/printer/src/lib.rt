@@ -10,7 +10,8 @@ ghost use Rattle.model.specs.Listing.{print as Listing·print};
 ghost use Rattle.machine.specs.Answered.{recordOf};
 ghost use Rattle.writer.specs.Writing.{Wrote};
 ghost use Rattle.printer.specs.Printing.{printingOf, lent, stateWith, printedWhole, Entries, endFields, callFields, headLines, isListed, entryText};
-use answers::print::Outcome;
+use causes::Cause;
+use causes::Outcome;
 use labels::Label;
 use machine::Machine;
 use model::Call;
@@ -28,10 +29,22 @@ const R: u8 = 82;
 
 const W: u8 = 87;
 
-// The outcome, and the record as it was given.
+// The outcome, how many bytes were written, and the record as it was given.
 pub struct Printed {
     pub outcome: Outcome,
+    pub bytes: usize,
     pub machine: Machine,
+}
+
+// A refusal gives the record back.
+fn refused(machine: Machine, cause: Cause) -> Printed
+    ensures { λ r. ⌜ r ≡ record { outcome = Outcome.Refused cause; bytes = 0; machine = machine } ⌝ }
+{
+    Printed {
+        outcome: Outcome::Refused(cause),
+        bytes: 0,
+        machine,
+    }
 }
 
 // Prints the machine with the memory that is lent to it.
@@ -41,21 +54,13 @@ pub fn print(machine: Machine, words: &[u32], labels: &[u8], out: &mut [u8]) -> 
     let fixed = machine.fixed;
     let fit = machine.is_well_formed();
     let whole = is_whole(fixed.size, words, labels);
-    if fit {
-        if whole {
-            print_whole(machine, words, labels, out)
-        } else {
-            Printed {
-                outcome: Outcome::ShortMemory,
-                machine,
-            }
-        }
-    } else {
-        Printed {
-            outcome: Outcome::IllFormed,
-            machine,
-        }
+    if !fit {
+        return refused(machine, Cause::IllFormed);
     }
+    if !whole {
+        return refused(machine, Cause::ShortMemory);
+    }
+    print_whole(machine, words, labels, out)
 }
 
 // Whether the lent words and labels are each at least as long as the size.
@@ -73,14 +78,12 @@ fn print_whole(machine: Machine, words: &[u32], labels: &[u8], out: &mut [u8]) -
 {
     let count = listing_length(machine, words, labels);
     if out.len() < count {
-        return Printed {
-            outcome: Outcome::ShortOutput,
-            machine,
-        };
+        return refused(machine, Cause::ShortOutput);
     }
     write_listing(out, machine, words, labels);
     Printed {
-        outcome: Outcome::Written(count),
+        outcome: Outcome::Done,
+        bytes: count,
         machine,
     }
 }

@@ -28,20 +28,25 @@ read-requires c κs = search needs
 enum-told : tie.Need-enum-told
 enum-told c = search needs
 
+no-record-requires : tie.Need-no-record-requires
+no-record-requires c κs = search needs
+
 same-length-2 : tie.Need-same-length-2
 same-length-2 c = search needs
 
 returns-2 : tie.Need-returns-2
 unfolding recordCall reading.read
 returns-2 c =
-    let reading = c .before .before in
+    let told = c .before in
+    let reading = told .before .before in
     let long = reading .before .before in
     let start = long .before .before .before .before .before .before in
     let buffer = start .args .«record» .now in
     let memory = lent (start .args .words .now) (start .args .labels .now) in
     when-long (untouched buffer memory) buffer (long .before .is-short .ensures) (long .if1 .left)
+    (rw (c .no-record .ensures)
     (not-called (stepOrRun (start .args .once)) buffer memory (reading .read .result) (machineIn buffer) (reading .read .ensures)
-    (c .enum-told .given .1))
+    (told .enum-told .given .1)))
 
 enum-told-2 : tie.Need-enum-told-2
 enum-told-2 c = search needs
@@ -49,11 +54,14 @@ enum-told-2 c = search needs
 step-or-run-requires : tie.Need-step-or-run-requires
 step-or-run-requires c κs = search needs
 
-number-of-requires : tie.Need-number-of-requires
-number-of-requires c κs = search needs
-
 keep-requires : tie.Need-keep-requires
 keep-requires c κs = search needs
+
+number-requires : tie.Need-number-requires
+number-requires c κs = search needs
+
+cast-result : tie.Need-cast-result
+cast-result c = search needs
 
 same-length-3 : tie.Need-same-length-3
 same-length-3 c = search needs
@@ -67,8 +75,8 @@ same-length-5 c = search needs
 returns-3 : tie.Need-returns-3
 unfolding recordCall reading.read
 returns-3 c =
-    let counted = c .before .before .before .before in
-    let called = counted .before .before .before .before .before .before in
+    let kept = c .before .before .before in
+    let called = kept .before .before .before .before .before .before .before in
     let found = called .before .before .before .before in
     let reading = found .before .before in
     let long = reading .before .before in
@@ -78,7 +86,7 @@ returns-3 c =
     when-long (untouched buffer memory) buffer (long .before .is-short .ensures) (long .if1 .left)
     (was-called (stepOrRun (start .args .once)) buffer memory (reading .read .result) (machineIn buffer)
     (called .step-or-run .result) (reading .read .ensures) (found .enum-told2 .given .1) (called .step-or-run .ensures)
-    (counted .number-of .ensures) (c .before .before .keep .ensures))
+    (c .number .ensures) (kept .keep .ensures))
 
 pub advanced-spec : {M : Type 1} → statement M
 advanced-spec =
@@ -89,12 +97,14 @@ advanced-spec =
     returns
     read-requires
     enum-told
+    no-record-requires
     same-length-2
     returns-2
     enum-told-2
     step-or-run-requires
-    number-of-requires
     keep-requires
+    number-requires
+    cast-result
     same-length-3
     same-length-4
     same-length-5

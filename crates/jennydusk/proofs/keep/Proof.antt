@@ -1,26 +1,30 @@
--- `jennydusk::keep` meets its contract. The test is the definition's.
+-- `jennydusk::keep` meets its contract. Only where the call was carried out is the record written.
 -- Assumes nothing.
-use mathlib.Core.Path.{refl, ap}
+use mathlib.Core.Path.{ap}
 use borrow.Author.Needs.{needs}
-use borrow.Author.Tests.{eq-eqb, ne-eqb}
 use Rattle.encoder.specs.Writing.{Written}
-use Rattle.jennydusk.specs.Calls.{kept}
 use Rattle.jennydusk.proofs.keep.Statement.{statement}
 use Rattle.jennydusk.proofs.keep.Tie as tie
 
+enum-told : tie.Need-enum-told
+enum-told c = search needs
+
 write-requires : tie.Need-write-requires
 write-requires c κs = search needs
+
+enum-told-2 : tie.Need-enum-told-2
+enum-told-2 c = search needs
 
 same-length : tie.Need-same-length
 same-length c = search needs
 
 returns : tie.Need-returns
-unfolding kept
-returns c = rw (eq-eqb _ 0 (c .before .before .before .before .if1 .taken)) (ap (λ (w : Written). w .buffer) (c .before .before .write .ensures))
+returns c =
+    let written = c .before .before in
+    rw (written .before .before .enum-told .given .1) (ap (λ (w : Written). w .buffer) (written .write .ensures))
 
 returns-2 : tie.Need-returns-2
-unfolding kept
-returns-2 c = rw (ne-eqb _ 0 (c .if1 .left)) refl
+returns-2 c = search needs
 
 pub keep-spec : {M : Type 1} → statement M
-keep-spec = tie.close (tie.spec write-requires same-length returns returns-2)
+keep-spec = tie.close (tie.spec enum-told write-requires enum-told-2 same-length returns returns-2)

@@ -3,7 +3,6 @@
 use mathlib.Core.Logic.{⊎-elim}
 use native.Mathlib.Omega.{arith}
 use borrow.Author.Needs.{needs}
-use Rattle.model.specs.Load.{fill}
 use Rattle.loader.proofs.Passes.{stored-range, not-stored}
 use Rattle.loader.proofs.store_word.Statement.{statement}
 use Rattle.loader.proofs.store_word.Tie as tie
@@ -42,7 +41,6 @@ same-length-2 : tie.Need-same-length-2
 same-length-2 c = search needs
 
 returns-2 : tie.Need-returns-2
-unfolding fill
 returns-2 c = rw (c .before .line .given .1)
 
 pub store-word-spec : {M : Type 1} → statement M

@@ -8,7 +8,7 @@ use lib.ListN.{length, drop}
 use borrow.Author.Needs.{needs}
 use Rattle.model.specs.Load.{fill}
 use Rattle.model.specs.Text.{lines}
-use Rattle.loader.proofs.Passes.{Written, read-at, moves, storable-wider, written-line, written-more, written-end, blank-both}
+use Rattle.loader.proofs.Passes.{Written, At, read-at, moves, storable-wider, written-line, written-more, written-end, blank-both}
 use Rattle.loader.proofs.write_memory.Statement.{statement}
 use Rattle.loader.proofs.write_memory.Tie as tie
 
@@ -41,76 +41,47 @@ part-read-line-end c = search needs
 read-line-requires : tie.Need-read-line-requires Inv-loop μ-loop
 read-line-requires c κs = search needs
 
+-- The line that was read.
+line-at : (c : tie.After-read-line Inv-loop μ-loop)
+    → At (c .before .before .before .before .before .before .before .before .before .before .before .before .before .before .before .args .text .now)
+    (c .before .before .before .loop .at) (c .read-line .result)
+line-at c = read-at _ _ _ (c .before .before .loop-test .taken) (c .read-line .ensures)
+
 store-word-requires : tie.Need-store-word-requires Inv-loop μ-loop
 store-word-requires c κs =
-    let x =
-    c .before .before .before .before .before .before .before .before .before .before .before .before .before .before .before .before .before .args .text .now
-    in
-    let a = read-at x (c .before .before .before .before .before .loop .at) _
-    (c .before .before .before .before .loop-test .taken) (c .before .before .read-line .ensures) in
-    let first = written-line _ _ _ _ _ _ _ _ _ a (c .before .before .before .before .before .loop .inv) in (
-      storable-wider _ _ _
-          (omega (
-            arith,
-            c .before .before .before .before .before .loop .inv .words,
-            c .before .before .before .before .before .before .before .before .before .before .before .before .clear-words .kept,
-            c .before .before .before .before .before .before .before .before .before .before .before .before .before .before .before .before .before .pre .0,
-          ))
+    let loop = c .before .before .before .before .before in
+    let cleared = loop .before .before .before in
+    let start = cleared .before .before .before .before .before .before .before .before .before in
+    let line = c .before .before .read-line .result .line in
+    let first = written-line _ _ _ _ _ _ _ _ _ (line-at (c .before .before)) (loop .loop .inv) in (
+      storable-wider (start .args .size) (length (loop .loop .words)) line
+          (omega (arith, loop .loop .inv .words, cleared .before .before .before .before .clear-words .kept, start .pre .0))
           (first .this),
-      storable-wider _ _ _
-          (omega (
-            arith,
-            c .before .before .before .before .before .loop .inv .labels,
-            c .before .before .before .before .before .before .before .before .clear-labels .kept,
-            c .before .before .before .before .before .before .before .before .before .before .before .before .before .before .before .before .before .pre .0,
-          ))
+      storable-wider (start .args .size) (length (loop .loop .labels)) line
+          (omega (arith, loop .loop .inv .labels, cleared .clear-labels .kept, start .pre .0))
           (first .this),
     )
 
 add-at : tie.Need-add-at Inv-loop μ-loop
-add-at c =
-    let x =
-    c .before .before .before .before .before .before .before .before .before .before .before .before .before .before .before .before .before .before .before .before .before .before .before .args .text .now
-    in
-    omega (
-      arith,
-      read-at x
-          (c .before .before .before .before .before .before .before .before .before .before .before .loop .at) _
-          (c .before .before .before .before .before .before .before .before .before .before .loop-test .taken)
-          (c .before .before .before .before .before .before .before .before .read-line .ensures),
-    )
+add-at c = omega (arith, line-at (c .before .before .before .before .before .before .before .before))
 
 loop-less : tie.Need-loop-less Inv-loop μ-loop
 loop-less c =
-    let x =
-    c .before .before .before .before .before .before .before .before .before .before .before .before .before .before .before .before .before .before .before .before .before .before .before .args .text .now
-    in
-    let a = read-at x
-    (c .before .before .before .before .before .before .before .before .before .before .before .loop .at) _
-    (c .before .before .before .before .before .before .before .before .before .before .loop-test .taken)
-    (c .before .before .before .before .before .before .before .before .read-line .ensures) in
+    let line = line-at (c .before .before .before .before .before .before .before .before) in
     omega (
       arith,
-      a,
-      moves _ _ _ a
-          (written-line _ _ _ _ _ _ _ _ _ a
+      line,
+      moves _ _ _ line
+          (written-line _ _ _ _ _ _ _ _ _ line
           (c .before .before .before .before .before .before .before .before .before .before .before .loop .inv) .good),
     )
 
 loop-again : tie.Need-loop-again Inv-loop μ-loop
 loop-again c =
-    let x =
-    c .before .before .before .before .before .before .before .before .before .before .before .before .before .before .before .before .before .before .before .before .before .before .before .args .text .now
-    in
-    let a = read-at x
-    (c .before .before .before .before .before .before .before .before .before .before .before .loop .at) _
-    (c .before .before .before .before .before .before .before .before .before .before .loop-test .taken)
-    (c .before .before .before .before .before .before .before .before .read-line .ensures) in
-    written-more _ _ _ _ _ _ _ _ _ a
-    (c .before .before .before .before .before .before .before .before .before .before .before .loop .inv) _ _
-    (c .before .before .before .before .before .store-word .ensures)
-    (c .before .before .before .before .before .store-word .kept .1 .0)
-    (c .before .before .before .before .before .store-word .kept .1 .1 .0)
+    let stored = c .before .before .before .before .before in
+    written-more _ _ _ _ _ _ _ _ _ (line-at (stored .before .before .before))
+    (stored .before .before .before .before .before .before .loop .inv) _ _
+    (stored .store-word .ensures) (stored .store-word .kept .1 .0) (stored .store-word .kept .1 .1 .0)
 
 same-length : tie.Need-same-length Inv-loop μ-loop
 same-length c =

@@ -16,6 +16,7 @@ use Rattle.model.specs.declared.Fixed.{Fixed}
 use Rattle.model.specs.Record.{Bank, Machine, State, machineOf}
 use Rattle.model.specs.WellFormed.{lentWhole}
 use Rattle.model.specs.Step.{running, step, steps, run}
+use Rattle.causes.specs.declared.Cause.the-variants.{ShortMemory}
 use Rattle.model.specs.Answer.{Answer, answer, refused, done}
 use Rattle.model.specs.Noninterference.{Kind, stepCall, runCall, Lent, whole, part, Invocation, lend, regain, answerOf, answered, after, afterAll, runStates, workStates, callStates, trace, final, atTick, reached, StepsProvisos}
 use Rattle.model.proofs.Truth.{either, not-iff}
@@ -111,7 +112,7 @@ lentOf q s =
 -- The answer of a call that is lent too little: refusal 6.
 answer-short : (q : Invocation) (s : State) → Ready s
     → lentWhole (s .fixed) (lentOf q s .values) (lentOf q s .labels) ≡ false
-    → answered q s ≡ refused 6 (machineOf s) (lentOf q s)
+    → answered q s ≡ refused ShortMemory (machineOf s) (lentOf q s)
 unfolding answered answer
 answer-short q s r e =
     ap (λ (f : Machine → Bank → Answer). f (machineOf s) (lentOf q s)) (answer-work (q .kind)) ∙ rw (fits s (r .fit), e)

@@ -1,6 +1,7 @@
 -- `printer::print` meets its contract. 7, then 6, then what the output decides.
 -- Assumes nothing.
 use borrow.Author.Needs.{needs}
+use borrow.Author.Tests.{not-true, not-false}
 use Rattle.model.specs.Record.{Machine, Bank}
 use Rattle.machine.specs.Answered.{recordOf}
 use Rattle.printer.specs.Printing.{lent}
@@ -21,36 +22,48 @@ is-well-formed-requires c κs = search needs
 is-whole-requires : tie.Need-is-whole-requires
 is-whole-requires c κs = search needs
 
+refused-requires : tie.Need-refused-requires
+refused-requires c κs = search needs
+
+returns : tie.Need-returns
+returns c =
+    let tested = c .before .before in
+    let start = tested .before .before .before .before .before .before in
+    rw (c .refused .ensures)
+    (ill-formed (record-of start) (memory-of start) _ _ (tested .before .is-well-formed .ensures) (not-true _ (c .before .if1 .taken)))
+
+refused-requires-2 : tie.Need-refused-requires-2
+refused-requires-2 c κs = search needs
+
+returns-2 : tie.Need-returns-2
+returns-2 c =
+    let fit = c .before .before in
+    let tested = fit .before in
+    let start = tested .before .before .before .before .before .before in
+    rw (c .refused2 .ensures)
+    (short-memory (record-of start) (memory-of start) _ _ (tested .before .is-well-formed .ensures) (not-false _ (fit .if1 .left))
+    _ (tested .is-whole .ensures) (not-true _ (c .before .if2 .taken)))
+
 print-whole-requires : tie.Need-print-whole-requires
 print-whole-requires c κs =
-    let start = c .before .before .before .before .before .before .before .before .before in
+    let fit = c .before .before in
+    let tested = fit .before in
+    let start = tested .before .before .before .before .before .before in
     lent-whole (record-of start) (memory-of start) (start .args .out .now) _
-    (c .before .before .before .before .is-well-formed .ensures) (c .before .before .if1 .taken) _
-    (c .before .before .before .is-whole .ensures) (c .before .if2 .taken)
+    (tested .before .is-well-formed .ensures) (not-false _ (fit .if1 .left)) _
+    (tested .is-whole .ensures) (not-false _ (c .before .if2 .left))
 
 same-length : tie.Need-same-length
 same-length c = search needs
 
-returns : tie.Need-returns
-returns c =
-    let start = c .before .before .before .before .before .before .before .before .before .before .before .before
-    in
-    whole (record-of start) (memory-of start) _ _
-    (c .before .before .before .before .before .before .before .is-well-formed .ensures)
-    (c .before .before .before .before .before .if1 .taken) _
-    (c .before .before .before .before .before .before .is-whole .ensures)
-    (c .before .before .before .before .if2 .taken) (c .before .before .print-whole .ensures)
-
-returns-2 : tie.Need-returns-2
-returns-2 c =
-    let start = c .before .before .before .before .before .before .before .before in
-    short-memory (record-of start) (memory-of start) _ _ (c .before .before .before .is-well-formed .ensures)
-    (c .before .if1 .taken) _ (c .before .before .is-whole .ensures) (c .if2 .left)
-
 returns-3 : tie.Need-returns-3
 returns-3 c =
-    let start = c .before .before .before .before .before .before .before in
-    ill-formed (record-of start) (memory-of start) _ _ (c .before .before .is-well-formed .ensures) (c .if1 .left)
+    let lent = c .before .before .before .before in
+    let fit = lent .before in
+    let tested = fit .before in
+    let start = tested .before .before .before .before .before .before in
+    whole (record-of start) (memory-of start) _ _ (tested .before .is-well-formed .ensures) (not-false _ (fit .if1 .left)) _
+    (tested .is-whole .ensures) (not-false _ (lent .if2 .left)) (c .before .before .print-whole .ensures)
 
 pub print-spec : {M : Type 1} → statement M
 print-spec =
@@ -58,8 +71,10 @@ print-spec =
     (tie.spec
     is-well-formed-requires
     is-whole-requires
+    refused-requires
+    returns
+    refused-requires-2
+    returns-2
     print-whole-requires
     same-length
-    returns
-    returns-2
     returns-3)

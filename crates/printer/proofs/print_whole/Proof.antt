@@ -18,10 +18,14 @@ memory-of start = lent (start .args .words .now) (start .args .labels .now)
 listing-length-requires : tie.Need-listing-length-requires
 listing-length-requires c κs = search needs
 
+refused-requires : tie.Need-refused-requires
+refused-requires c κs = search needs
+
 returns : tie.Need-returns
 returns c =
-    short-output (record-of (c .before .before .before .before .before))
-    (memory-of (c .before .before .before .before .before)) _ _ (c .before .listing-length .ensures) (c .if1 .taken)
+    let start = c .before .before .before .before .before .before in
+    rw (c .refused .ensures)
+    (short-output (record-of start) (memory-of start) _ _ (c .before .before .listing-length .ensures) (c .before .if1 .taken))
 
 write-listing-requires : tie.Need-write-listing-requires
 write-listing-requires c κs = search needs
@@ -32,10 +36,15 @@ same-length c = search needs
 returns-2 : tie.Need-returns-2
 returns-2 c =
     let start = c .before .before .before .before .before .before .before .before .before in
-    listed (record-of start) (memory-of start) _ _
-    (c .before .before .before .before .before .listing-length .ensures) (c .before .before .write-listing .ensures)
+    listed (record-of start) (memory-of start) _ _ (c .before .before .before .before .before .listing-length .ensures) (c .before .before .write-listing .ensures)
 
 pub print-whole-spec : {M : Type 1} → statement M
 print-whole-spec =
     tie.close
-    (tie.spec listing-length-requires returns write-listing-requires same-length returns-2)
+    (tie.spec
+    listing-length-requires
+    refused-requires
+    returns
+    write-listing-requires
+    same-length
+    returns-2)

@@ -1,4 +1,0 @@
-pub mod Ranges
-pub mod Causes
-pub mod Faithful
-pub mod Outcome

@@ -1,0 +1,3 @@
+-- The refusals, their numbers, and the order in which tests are tried.
+pub mod Causes
+pub mod Tests

@@ -1,0 +1,19 @@
+-- The tests of a G line, and those that R and W lines share, as the model lists them.
+-- Assumes nothing.
+use Prim.Native.Nat.{ℕ}
+use mathlib.Core.List.{List, [], _∷_}
+use Rattle.causes.specs.declared.Cause.the-variants.{OutOfRange, OutOfOrder}
+use Rattle.causes.specs.Tests.{Test, _orElse_}
+use Rattle.model.specs.declared.judging.Kind.{Kind}
+use Rattle.model.specs.declared.judging.Kind.the-variants.{GateLine}
+use Rattle.model.specs.declared.judging.Last.{Last}
+use Rattle.model.specs.Load.{gateInRange, entryInRange, inOrder, rising}
+
+-- Of a G line.
+abbrev pub gateTests : ℕ → Last → ℕ → ℕ → ℕ → List Test
+gateTests count last pc p t = inOrder last GateLine orElse OutOfOrder ∷ gateInRange count pc p t orElse OutOfRange ∷ []
+
+-- Of an R or W line.
+abbrev pub entryTests : Kind → ℕ → Last → ℕ → ℕ → ℕ → List Test
+entryTests kind bound last k l v =
+    inOrder last kind orElse OutOfOrder ∷ entryInRange bound k l v orElse OutOfRange ∷ rising last kind k orElse OutOfOrder ∷ []
