@@ -13,7 +13,7 @@ use Rattle.model.specs.Record.{Bank, Machine, stateOf}
 use Rattle.model.specs.WellFormed.{wellFormed, lentWhole}
 use Rattle.model.specs.Listing.{listing, Printing, notPrinted, print}
 use Rattle.model.proofs.Truth.{and-iff}
-use Rattle.model.proofs.WellFormed.{fit}
+use Rattle.model.proofs.Ready.{fit}
 use Rattle.writer.specs.Writing.{over, Wrote}
 use Rattle.printer.specs.Printing.{printedWhole, Entries}
 
