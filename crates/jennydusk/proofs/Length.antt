@@ -26,6 +26,6 @@ bytes-most r m out =
     choice (λ (a : Printing). a .bytes ≤ 2 ^ 32) (lentWhole (r .fixed) (m .values) (m .labels)) _ _
     (λ _.
     choice (λ (a : Printing). a .bytes ≤ 2 ^ 32) (leb (length (listing (stateOf r m))) (length out)) _ _
-    (λ _. listing-most (stateOf r m) (fit (stateOf r m) w .fixed .sizeHigh)) (λ _. omega arith))
+    (λ _. listing-most (stateOf r m) (fit r w .fixed .sizeHigh)) (λ _. omega arith))
     (λ _. omega arith))
     (λ _. omega arith)

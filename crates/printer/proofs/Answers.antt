@@ -44,7 +44,7 @@ module _ (r : Machine) (m : Bank) (out : List ℕ) where
   module _ (b : Bool) (e : b ≡ wellFormed r) (t : b ≡ true) where
     -- It has at most 2,048 words.
     size-most : r .fixed .size ≤ 2048
-    size-most = fit (stateOf r m) (sym e ∙ t) .fixed .sizeHigh
+    size-most = fit r (sym e ∙ t) .fixed .sizeHigh
 
     -- 6 where lent words or labels are shorter than the size.
     pub short-memory : (w : Bool)

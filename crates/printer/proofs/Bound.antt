@@ -143,7 +143,7 @@ entries-bound letter b w n t h = some-entries letter b w n 0 n t h (omega arith)
 -- 34 for each of two F lines, 20 for each of 16 R lines and 22 for each of 2,048 W lines.
 pub listing-bound : (s : State) → wellFormed (machineOf s) ≡ true → InTypes s → length (listing s) ≤ 45478
 listing-bound s e t =
-    let f = fit s e in
+    let f = fit (machineOf s) e in
     rw (listing-length s)
     (omega (
       arith,
