@@ -10,4 +10,3 @@ pub mod Program
 pub mod Facts
 pub mod Noninterference
 pub mod Certificate
-pub mod WitnessFacts
