@@ -18,7 +18,7 @@ use Rattle.model.specs.Load.{load}
 use Rattle.model.specs.Listing.{listing}
 use Rattle.model.specs.Program.{stateOfLoad, reply, Firing, fire, fireWhole, programMemory}
 use Rattle.model.proofs.Truth.{choice}
-use Rattle.model.proofs.Step.{Ready}
+use Rattle.model.proofs.Ready.{Ready}
 use Rattle.model.proofs.Run.{run-leaves}
 use Rattle.model.proofs.Load.{load-not-short}
 use Rattle.model.proofs.Program.{load-ready, run-load-ready}

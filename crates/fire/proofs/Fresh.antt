@@ -31,7 +31,8 @@ use Rattle.model.specs.Program.{stateOfLoad, reply}
 use Rattle.model.proofs.Truth.{either, and-iff}
 use Rattle.model.proofs.Writes.{set-at, written-fixed}
 use Rattle.model.proofs.Legal.{LegalWrite, keeps, sets, marks}
-use Rattle.model.proofs.Step.{Ready, step-write, step-ready}
+use Rattle.model.proofs.Ready.{Ready}
+use Rattle.model.proofs.Step.{step-write, step-ready}
 use Rattle.model.proofs.Program.{load-ready}
 use Rattle.verdicts.proofs.Ranges.{entry-range}
 use Rattle.loader.specs.Load.{isStorable, storable}

@@ -9,7 +9,7 @@ use Rattle.model.specs.Record.{Bank, Machine, State, stateOf}
 use Rattle.model.specs.WellFormed.{wellFormed, lentWhole}
 use Rattle.model.specs.Listing.{listing, Printing, print}
 use Rattle.model.proofs.Truth.{choice}
-use Rattle.model.proofs.WellFormed.{fit}
+use Rattle.model.proofs.Ready.{fit}
 use Rattle.printer.proofs.Lines.{head-most, entries-most, listing-length}
 
 listing-most : (s : State) → s .fixed .size ≤ 2048 → length (listing s) ≤ 2 ^ 32
@@ -26,6 +26,6 @@ bytes-most r m out =
     choice (λ (a : Printing). a .bytes ≤ 2 ^ 32) (lentWhole (r .fixed) (m .values) (m .labels)) _ _
     (λ _.
     choice (λ (a : Printing). a .bytes ≤ 2 ^ 32) (leb (length (listing (stateOf r m))) (length out)) _ _
-    (λ _. listing-most (stateOf r m) (fit (stateOf r m) w .fixed .sizeHigh)) (λ _. omega arith))
+    (λ _. listing-most (stateOf r m) (fit r w .fixed .sizeHigh)) (λ _. omega arith))
     (λ _. omega arith))
     (λ _. omega arith)

@@ -20,7 +20,8 @@ use Rattle.model.specs.Seen.{LowEquivalent}
 use Rattle.model.specs.Noninterference.{Invocation, trace, StepProvisos, StepsProvisos, Provisos, Loaded, SameSetting}
 use Rattle.model.specs.Certificate.{attempts, Certified, Certificate, whole, breaks, breakAt, certify, CertifiedNoninterference, CertifyTells, OneCertificate}
 use Rattle.model.proofs.Truth.{either, clash}
-use Rattle.model.proofs.Step.{Ready, step-ready, step-passes}
+use Rattle.model.proofs.Ready.{Ready}
+use Rattle.model.proofs.Step.{step-ready, step-passes}
 use Rattle.model.proofs.Load.{loaded-ready, load-loaded}
 use Rattle.model.proofs.Noninterference.{loaded-outside, from-loaded-states}
 use Rattle.model.proofs.Noninterference.Visible.{setting-sym}

@@ -18,17 +18,13 @@ use Rattle.model.specs.declared.Pair.{Pair}
 use Rattle.model.specs.declared.CallGate.{CallGate}
 use Rattle.model.specs.Record.{State, Location, register, word, valueAt, labelAt, isEmpty, isGate, pairOf, newest, inUpcall}
 use Rattle.model.specs.WellFormed.{isValid}
-use Rattle.model.specs.Typed.{Typed, Below}
+use Rattle.model.specs.Typed.{Below}
 use Rattle.model.specs.Word.{Arithmetic, add, subtract, and, or, xor, less, multiply, Rule, raise, relabel, Op, immediate, arithmetic, load, store, branch, jump, readClock, setLabel, setPair, upcall, endUpcall, gateCall, gateReturn, halt, opField, aField, nField, decode, compute}
 use Rattle.model.specs.Ops.{Write, nothing, value, label, Change, write, goto, enter, openUpcall, openGate, closeGate, stop, Effect, does, ends, Row, allows, newPairAllowed, mayUpcall, mayCallGate, mayReturn, multiplyTicks, arithmeticTicks, noGate, Ra, Rb, newPair, gate, table}
 use Rattle.model.specs.Step.{known, fetchAllowed, fetch, Decision, rest, spend, stall, close, carry, endTick, finish, fault, passed, attempt, inTime, plan, beyondLimit, inLimit, running, decide}
+use Rattle.model.proofs.Ready.{_⊑_, Ready}
 use Rattle.model.proofs.Truth.{choice, and-iff, or-iff, or-true, not-iff, clash}
 
--- The one label flows to the other.
-abbrev pub _⊑_ : ℕ → ℕ → Type 0
-_⊑_ = Flows principals
-
-infix 4 _⊑_
 -- A location is a register that exists, or a word below the size.
 abbrev pub Inside : State → Location → Type 0
 Inside s (register k) = k < 16
@@ -133,16 +129,16 @@ below-or-equal i j m n e =
 
 -- ---- the op table
 
-module _ (s : State) (typed : Typed s) (w : ℕ) where
+module _ (s : State) (ready : Ready s) (w : ℕ) where
   -- The value of a register has 32 bits.
   reads : (k : ℕ) → valueAt s (register k) < 2 ^ 32
   unfolding valueAt Below
-  reads k = typed .values k
+  reads k = ready .typed .values k
 
   -- So has the value of a word.
   reads-word : (k : ℕ) → k < s .fixed .size → valueAt s (word k) < 2 ^ 32
   unfolding valueAt
-  reads-word k h = typed .words k h
+  reads-word k h = ready .typed .words k h
 
   n-lt : nField w < 2 ^ 32
   unfolding nField
@@ -268,7 +264,7 @@ data Attempted (s : State) : Decision → Type 0 where
   closes : {cause : ℕ} → inUpcall (s .control) ≡ true → cause ≤ 3 → Attempted s (close cause)
   carries : {ticks : ℕ} {c : Change} → 1 ≤ ticks → LegalChange s ticks c → Attempted s (carry ticks c)
 
-module _ (s : State) (typed : Typed s) where
+module _ (s : State) (ready : Ready s) where
   -- An op that passes its check.
   passes : {ticks : ℕ} {e : Effect} → 1 ≤ ticks → LegalEffect s ticks e → Attempted s (passed ticks e)
   passes long (carried h) = carries long h
@@ -305,7 +301,7 @@ module _ (s : State) (typed : Typed s) where
   -- The op of a fetched word.
   decoded : (w : ℕ) (op : Option Op) → Planned s (plan s (known w op))
   decoded w none = faulted 3 (lit≤ tt) (lit≤ tt)
-  decoded w (some op) = timed (attempted _ (row-legal s typed w op))
+  decoded w (some op) = timed (attempted _ (row-legal s ready w op))
 
   -- What would happen.
   planned : Planned s (plan s (fetch s))

@@ -1,5 +1,6 @@
 pub mod Truth
 pub mod Writes
+pub mod Ready
 pub mod Legal
 pub mod WellFormed
 pub mod Step
@@ -9,4 +10,3 @@ pub mod Program
 pub mod Facts
 pub mod Noninterference
 pub mod Certificate
-pub mod WitnessFacts

@@ -25,7 +25,7 @@ use Rattle.model.specs.declared.format.Line.{Line}
 use Rattle.model.specs.declared.format.Line.the-variants.{M, G, R, W, Malformed}
 use Rattle.model.specs.declared.judging.Last.{Last}
 use Rattle.model.specs.declared.judging.Header.{Header}
-use Rattle.model.specs.Record.{Bank, Machine, State, stateOf}
+use Rattle.model.specs.Record.{Bank, Machine, State, machineOf, stateOf}
 use Rattle.model.specs.WellFormed.{isValid, endInRange, wellFormed, lentWhole}
 use Rattle.model.specs.Typed.{Below}
 use Rattle.model.specs.Step.{running}
@@ -34,8 +34,8 @@ use Rattle.model.specs.Load.{machineOfHeader, withGate, withRegister, wi
 use Rattle.model.specs.Noninterference.{Loaded}
 use Rattle.model.specs.Program.{stateOfLoad}
 use Rattle.model.proofs.Truth.{choice, either, and-iff, clash}
-use Rattle.model.proofs.WellFormed.{FixedFit, none, fit, fits}
-use Rattle.model.proofs.Step.{Ready, below-set}
+use Rattle.model.proofs.Ready.{FixedFit, none, fit, fits, Ready}
+use Rattle.model.proofs.Step.{below-set}
 
 -- ---- the state while the lines are read
 
@@ -235,7 +235,7 @@ in-order-loaded r m h =
     let c = h .started in
     record {
       wellFormed =
-          fits (stateOf r m)
+          fits r
           (record {
             fixed = h .fixed;
             end = unfold endInRange in rw (c .end, c .why);
@@ -410,7 +410,7 @@ unfolding lentWhole
 loaded-ready s l =
     let h = simp and-iff at (l .lent) in
     record {
-      fit = fit s (l .wellFormed);
+      fit = fit (machineOf s) (l .wellFormed);
       typed = l .typed;
       words = leb-true (s .fixed .size) (length (s .memory .values)) (h .0);
       labels = leb-true (s .fixed .size) (length (s .memory .labels)) (h .1);

@@ -18,8 +18,7 @@ use Rattle.model.specs.Answer.{answer, done, runAnswer}
 use Rattle.model.specs.Load.{load}
 use Rattle.model.specs.Listing.{listing, notPrinted, printed, print}
 use Rattle.model.specs.Program.{stateOfLoad}
-use Rattle.model.proofs.WellFormed.{fits}
-use Rattle.model.proofs.Step.{Ready}
+use Rattle.model.proofs.Ready.{fits, Ready}
 use Rattle.model.proofs.Run.{run-ready}
 use Rattle.model.proofs.Load.{loaded-ready, load-loaded}
 
@@ -31,7 +30,7 @@ lent s r = rw (le-leb _ _ (r .words), le-leb _ _ (r .labels))
 -- A ready state is run without a refusal.
 pub run-done : (s : State) → Ready s → runAnswer (machineOf s) (s .memory) ≡ done (run s)
 unfolding answer
-run-done s r = rw (fits s (r .fit), lent s r)
+run-done s r = rw (fits (machineOf s) (r .fit), lent s r)
 
 -- A ready state is printed unless the output is too short.
 pub print-done : (s : State) (out : List ℕ) → Ready s
@@ -39,7 +38,7 @@ pub print-done : (s : State) (out : List ℕ) → Ready s
     ≡ unless (leb (length (listing s)) (length out)) (notPrinted ShortOutput (machineOf s) out)
     (printed (machineOf s) (listing s) out)
 unfolding print
-print-done s out r = rw (fits s (r .fit), lent s r)
+print-done s out r = rw (fits (machineOf s) (r .fit), lent s r)
 
 -- The state that an accepted load leaves is ready, and so is the one after its run.
 pub load-ready : (text : List ℕ) (m : Bank) → load text m .outcome ≡ Done → Ready (stateOfLoad (load text m))

@@ -13,7 +13,8 @@ use Rattle.model.specs.Step.{running, step, steps, run}
 use Rattle.model.proofs.Truth.{either}
 use Rattle.model.proofs.Writes.{lengths}
 use Rattle.model.proofs.WellFormed.{step-fixed}
-use Rattle.model.proofs.Step.{Ready, step-ready, step-ended, step-passes, step-lengths, step-beyond}
+use Rattle.model.proofs.Ready.{Ready}
+use Rattle.model.proofs.Step.{step-ready, step-ended, step-passes, step-lengths, step-beyond}
 
 -- ---- so many steps
 

@@ -14,27 +14,20 @@ use borrow.Author.Tests.{eq-eqb}
 use Rattle.labels.proofs.Laws.{flows-trans, valid-flows}
 use Rattle.model.specs.declared.Fixed.{Fixed}
 use Rattle.model.specs.declared.Control.{Control}
-use Rattle.model.specs.Record.{State, Location, register, word, labelAt, newest, inUpcall}
+use Rattle.model.specs.Record.{State, Location, register, word, labelAt, machineOf, newest, inUpcall}
 use Rattle.model.specs.Typed.{Typed, Below}
 use Rattle.model.specs.Ops.{Write, value, label, Change, write, goto, enter, openUpcall, openGate, closeGate, stop}
 use Rattle.model.specs.Step.{Decision, rest, spend, stall, close, carry, endTick, finish, fetch, plan, beyondLimit, inLimit, running, decide, written, causeAllowed, causeWrite, changeWrite, writeOf, changed, restored, controlAfter, apply, step}
 use Rattle.model.proofs.Truth.{choice, clash}
 use Rattle.model.proofs.Writes.{There, Lengths, lengths, set-at, written-lengths}
-use Rattle.model.proofs.Legal.{_⊑_, Inside, LegalWrite, keeps, sets, marks, LegalChange, writes, goes, enters, calls, gates, returns, stops, Legal, rests, spends, stalls, closes, carries, legal}
-use Rattle.model.proofs.WellFormed.{Fit, top-upcall, step-fit, step-fixed, step-control}
-
--- A state that a call is carried out on: its record is well-formed, its lists are as the types say, and the lent words and
--- labels are each at least as long as the size.
-pub record Ready (s : State) : Type 0 where
-  pub fit : Fit (s .fixed) (s .control)
-  pub typed : Typed s
-  pub words : s .fixed .size ≤ length (s .memory .values)
-  pub labels : s .fixed .size ≤ length (s .memory .labels)
+use Rattle.model.proofs.Ready.{_⊑_, Fit, Ready}
+use Rattle.model.proofs.Legal.{Inside, LegalWrite, keeps, sets, marks, LegalChange, writes, goes, enters, calls, gates, returns, stops, Legal, rests, spends, stalls, closes, carries, legal}
+use Rattle.model.proofs.WellFormed.{top-upcall, step-fit, step-fixed, step-control}
 
 -- ---- what a step writes
 
 -- A cause is written to register 15 only where p, by way of t, flows to its label.
-cause-legal : (s : State) (cause : ℕ) → Fit (s .fixed) (s .control) → cause ≤ 3 → LegalWrite s (causeWrite s cause)
+cause-legal : (s : State) (cause : ℕ) → Fit (machineOf s) → cause ≤ 3 → LegalWrite s (causeWrite s cause)
 unfolding causeWrite causeAllowed
 cause-legal s cause f h =
     choice (LegalWrite s) (causeAllowed s) _ _
@@ -53,7 +46,7 @@ change-write s (returns g p) = keeps
 change-write s (stops n) = keeps
 
 -- What a decision writes is legal: its location exists, and p flows to the labels there.
-pub write-legal : (s : State) {d : Decision} → Fit (s .fixed) (s .control) → Legal s d → LegalWrite s (writeOf s d)
+pub write-legal : (s : State) {d : Decision} → Fit (machineOf s) → Legal s d → LegalWrite s (writeOf s d)
 unfolding writeOf
 write-legal s f (rests r) = keeps
 write-legal s f (spends r h) = keeps
@@ -104,7 +97,7 @@ written-beyond s (marks {x = word k} {l = m} h p l) = (refl, drop-set-lt _ (s .m
 
 -- What a step writes is legal.
 pub step-write : (s : State) → Ready s → LegalWrite s (writeOf s (decide s))
-step-write s r = write-legal s (r .fit) (legal s (r .typed))
+step-write s r = write-legal s (r .fit) (legal s r)
 
 -- A step leaves words and labels at or beyond the size.
 pub step-beyond : (s : State) → Ready s
@@ -120,7 +113,7 @@ step-ready s r =
     let b = written-below s r (step-write s r) in
     let n = step-lengths s in
     record {
-      fit = step-fit s (r .typed) (r .fit);
+      fit = step-fit s r;
       typed =
           record {
             values = b .0;
@@ -151,7 +144,7 @@ clock-after s (carry ticks closeGate) = refl
 clock-after s (carry ticks stop) = refl
 
 -- The end tick of an open upcall is at least the clock.
-pub end-tick-late : (s : State) → Fit (s .fixed) (s .control) → inUpcall (s .control) ≡ true → s .control .clock ≤ endTick s
+pub end-tick-late : (s : State) → Fit (machineOf s) → inUpcall (s .control) ≡ true → s .control .clock ≤ endTick s
 unfolding endTick inUpcall newest
 end-tick-late s f u = top-upcall (f .calls) u .started
 
@@ -162,7 +155,7 @@ pub record Passes (s : State) (c : Control) : Type 0 where
   pub progress : running s ≡ true → (s .control .clock < c .clock) ⊎ (eqb (c .end) 0 ≡ false)
 
 -- So it is with every decision.
-passes : (s : State) {d : Decision} → Fit (s .fixed) (s .control) → Legal s d → Passes s (controlAfter s d)
+passes : (s : State) {d : Decision} → Fit (machineOf s) → Legal s d → Passes s (controlAfter s d)
 unfolding finish controlAfter
 passes s f (rests r) = record { rises = le-refl _; limited = f .clock; progress = λ u. clash u r }
 passes s f (spends r h) = record { rises = f .clock; limited = le-refl _; progress = λ u. inr refl }
@@ -176,7 +169,7 @@ passes s f (carries {ticks} {c} r long l u h) =
 
 -- So it is with a step.
 pub step-passes : (s : State) → Ready s → Passes s (step s .control)
-step-passes s r = rw (step-control s) (passes s (r .fit) (legal s (r .typed)))
+step-passes s r = rw (step-control s) (passes s (r .fit) (legal s r))
 
 -- The clock after a step.
 pub step-clock : (s : State) → step s .control .clock ≡ finish s (decide s)

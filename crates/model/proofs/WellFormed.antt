@@ -1,7 +1,7 @@
 -- Well-formed records: the definition's test taken apart, and the law that a step of a well-formed record gives one.
 -- Assumes nothing.
 use Prim.Native.Nat.{ℕ, _+_, _^_, _<_, _≤_}
-use mathlib.Core.Path.{_≡_, refl, sym}
+use mathlib.Core.Path.{_≡_, refl, sym, ap, _∙_, subst, subst₂}
 use mathlib.Core.Bool.{true, false, cond}
 use native.Mathlib.Omega.{arith}
 use borrow.Author.Tests.{leb-true, le-leb, ltb-true, lt-ltb}
@@ -11,116 +11,15 @@ use Rattle.model.specs.declared.Fixed.{Fixed}
 use Rattle.model.specs.declared.Control.{Control}
 use Rattle.model.specs.declared.Call.{Call}
 use Rattle.model.specs.declared.Call.the-variants.{Empty, Gate, Upcall}
-use Rattle.model.specs.Record.{State, machineOf, newest, inUpcall, isEmpty, isGate, isUpcall, endTickOf, pairOf}
+use Rattle.model.specs.Record.{Machine, State, machineOf, newest, inUpcall, isEmpty, isGate, isUpcall, endTickOf, pairOf}
 use Rattle.model.specs.WellFormed.{isValid, fixedInRange, endInRange, upcallWellFormed, callsWellFormed, wellFormed}
 use Rattle.model.specs.Typed.{Typed}
 use Rattle.model.specs.Ops.{Change}
-use Rattle.model.specs.Step.{Decision, endTick, decide, writeOf, restored, changed, controlAfter, apply, step}
+use Rattle.model.specs.Step.{Decision, endTick, decide, writeOf, restored, changed, controlAfter, withControl, apply, step}
 use Rattle.model.proofs.Truth.{and-iff, clash}
 use Rattle.model.proofs.Writes.{written-fixed}
-use Rattle.model.proofs.Legal.{_⊑_, LegalChange, writes, goes, enters, calls, gates, returns, stops, Legal, rests, spends, stalls, closes, carries, legal}
-
--- ---- the test taken apart
-
--- The ranges of size, limit and number of gates.
-pub record FixedFit (f : Fixed) : Type 0 where
-  pub sizeLow : 1 ≤ f .size
-  pub sizeHigh : f .size ≤ 2048
-  pub limitLow : 1 ≤ f .limit
-  pub limitHigh : f .limit ≤ 2 ^ 24
-  pub gates : f .count ≤ 8
-
--- What is asked of an upcall that is kept while the pair is `now` and the clock stands at `clock`.
-pub record UpcallFit (now : Pair) (clock : ℕ) (q : Pair) (e : ℕ) : Type 0 where
-  pub valid : isValid q ≡ true
-  pub pc : q .pc ⊑ now .pc
-  pub timing : q .timing ⊑ now .timing
-  pub started : clock ≤ e
-  pub bounded : e < 2 ^ 33
-
--- The four shapes of the two places for open calls.
-pub data CallsFit (now : Pair) (clock : ℕ) : Call → Call → Type 0 where
-  none : CallsFit now clock Empty Empty
-  gate : {k : ℕ} {q : Pair} → isValid q ≡ true → CallsFit now clock (Gate k q) Empty
-  upcall : {k e : ℕ} {q : Pair} → UpcallFit now clock q e → CallsFit now clock (Upcall k q e) Empty
-  both : {k j e : ℕ} {q r : Pair} → isValid q ≡ true → UpcallFit now clock r e → CallsFit now clock (Gate k q) (Upcall j r e)
-
--- A control that is well-formed under what no step changes.
-pub record Fit (f : Fixed) (c : Control) : Type 0 where
-  pub fixed : FixedFit f
-  pub end : endInRange c ≡ true
-  pub clock : c .clock ≤ f .limit
-  pub valid : isValid (c .pair) ≡ true
-  pub calls : CallsFit (c .pair) (c .clock) (c .first) (c .second)
-
-fixed-fit : (f : Fixed) → fixedInRange f ≡ true → FixedFit f
-unfolding fixedInRange
-fixed-fit f e =
-    let h = simp and-iff at e in
-    record {
-      sizeLow = leb-true 1 (f .size) (h .0 .0 .0 .0);
-      sizeHigh = leb-true (f .size) 2048 (h .0 .0 .0 .1);
-      limitLow = leb-true 1 (f .limit) (h .0 .0 .1);
-      limitHigh = leb-true (f .limit) (2 ^ 24) (h .0 .1);
-      gates = leb-true (f .count) 8 (h .1);
-    }
-
-fixed-fits : {f : Fixed} → FixedFit f → fixedInRange f ≡ true
-unfolding fixedInRange
-fixed-fits h = rw (le-leb _ _ (h .sizeLow), le-leb _ _ (h .sizeHigh), le-leb _ _ (h .limitLow), le-leb _ _ (h .limitHigh), le-leb _ _ (h .gates))
-
-upcall-fit : (c : Control) (q : Pair) (e : ℕ) → upcallWellFormed c q e ≡ true → UpcallFit (c .pair) (c .clock) q e
-unfolding upcallWellFormed
-upcall-fit c q e t =
-    let h = simp and-iff at t in
-    record {
-      valid = h .0 .0 .0 .0;
-      pc = record { holds = h .0 .0 .0 .1 };
-      timing = record { holds = h .0 .0 .1 };
-      started = leb-true (c .clock) e (h .0 .1);
-      bounded = ltb-true e (2 ^ 33) (h .1);
-    }
-
-upcall-fits : (c : Control) {q : Pair} {e : ℕ} → UpcallFit (c .pair) (c .clock) q e → upcallWellFormed c q e ≡ true
-unfolding upcallWellFormed
-upcall-fits c h = rw (h .valid, h .pc .holds, h .timing .holds, le-leb _ _ (h .started), lt-ltb _ _ (h .bounded))
-
-calls-fit : (c : Control) (x y : Call) → callsWellFormed c x y ≡ true → CallsFit (c .pair) (c .clock) x y
-calls-fit c Empty Empty e = none
-calls-fit c Empty (Gate k q) e = clash e refl
-calls-fit c Empty (Upcall k q t) e = clash e refl
-calls-fit c (Gate k q) Empty e = gate e
-calls-fit c (Gate k q) (Gate j r) e = clash e refl
-calls-fit c (Gate k q) (Upcall j r t) e = let h = simp and-iff at e in both (h .0) (upcall-fit c r t (h .1))
-calls-fit c (Upcall k q t) Empty e = upcall (upcall-fit c q t e)
-calls-fit c (Upcall k q t) (Gate j r) e = clash e refl
-calls-fit c (Upcall k q t) (Upcall j r u) e = clash e refl
-
-calls-fits : (c : Control) {x y : Call} → CallsFit (c .pair) (c .clock) x y → callsWellFormed c x y ≡ true
-calls-fits c none = refl
-calls-fits c (gate h) = h
-calls-fits c (upcall h) = upcall-fits c h
-calls-fits c (both h k) = rw (h, upcall-fits c k)
-
--- A record that passes the test is well-formed in each respect.
-pub fit : (s : State) → wellFormed (machineOf s) ≡ true → Fit (s .fixed) (s .control)
-unfolding wellFormed
-fit s e =
-    let h = simp and-iff at e in
-    record {
-      fixed = fixed-fit (s .fixed) (h .0 .0 .0 .0);
-      end = h .0 .0 .0 .1;
-      clock = leb-true (s .control .clock) (s .fixed .limit) (h .0 .0 .1);
-      valid = h .0 .1;
-      calls = calls-fit (s .control) (s .control .first) (s .control .second) (h .1);
-    }
-
--- A record that is well-formed in each respect passes the test.
-pub fits : (s : State) → Fit (s .fixed) (s .control) → wellFormed (machineOf s) ≡ true
-unfolding wellFormed
-fits s h = rw (fixed-fits (h .fixed), h .end, le-leb _ _ (h .clock), h .valid, calls-fits (s .control) (h .calls))
-
--- ---- a step keeps it
+use Rattle.model.proofs.Ready.{_⊑_, FixedFit, UpcallFit, CallsFit, none, gate, upcall, both, Fit, Ready}
+use Rattle.model.proofs.Legal.{LegalChange, writes, goes, enters, calls, gates, returns, stops, Legal, rests, spends, stalls, closes, carries, legal}
 
 -- The newest of two calls.
 abbrev top : Call → Call → Call
@@ -200,7 +99,7 @@ upcall-open Empty e = sym e
 upcall-open (Gate k q) e = refl
 upcall-open (Upcall k q t) e = refl
 
-module _ (s : State) (f : Fit (s .fixed) (s .control)) where
+module _ (s : State) (f : Fit (machineOf s)) where
   -- The pair as it is flows to itself.
   stays : s .control .pair .pc ⊑ s .control .pair .pc
   stays = flows-refl _ _
@@ -208,7 +107,7 @@ module _ (s : State) (f : Fit (s .fixed) (s .control)) where
   -- The control after a change in so many ticks.
   change-fit : {ticks : ℕ} {c : Change} → s .control .clock + ticks ≤ s .fixed .limit
       → (inUpcall (s .control) ≡ true → s .control .clock + ticks ≤ endTick s) → LegalChange s ticks c
-      → Fit (s .fixed) (changed (s .control) (s .control .clock + ticks) c)
+      → Fit (machineOf (withControl s (changed (s .control) (s .control .clock + ticks) c)))
   unfolding changed restored endInRange endTick inUpcall newest
   change-fit l u (writes h) =
       record { fixed = f .fixed; end = f .end; clock = l; valid = f .valid; calls = calls-kept _ (f .calls) stays (flows-refl _ _) u }
@@ -240,7 +139,7 @@ module _ (s : State) (f : Fit (s .fixed) (s .control)) where
       record { fixed = f .fixed; end = refl; clock = l; valid = f .valid; calls = calls-kept _ (f .calls) stays (flows-refl _ _) u }
 
   -- The control after a decision.
-  decision-fit : {d : Decision} → Legal s d → Fit (s .fixed) (controlAfter s d)
+  decision-fit : {d : Decision} → Legal s d → Fit (machineOf (withControl s (controlAfter s d)))
   unfolding controlAfter restored endInRange endTick inUpcall newest
   decision-fit (rests r) = f
   decision-fit (spends r h) =
@@ -271,6 +170,17 @@ module _ (s : State) (f : Fit (s .fixed) (s .control)) where
       }
   decision-fit (carries r long l u h) = change-fit l u h
 
+-- Whether a record is well-formed does not go by its registers.
+same-fit : (r q : Machine) → r .fixed ≡ q .fixed → r .control ≡ q .control → Fit r → Fit q
+same-fit r q e c h =
+    record {
+      fixed = subst FixedFit e (h .fixed);
+      end = ap endInRange (sym c) ∙ h .end;
+      clock = subst₂ (λ (d : Control) (f : Fixed). d .clock ≤ f .limit) c e (h .clock);
+      valid = ap (λ (d : Control). isValid (d .pair)) (sym c) ∙ h .valid;
+      calls = subst (λ (d : Control). CallsFit (d .pair) (d .clock) (d .first) (d .second)) c (h .calls);
+    }
+
 -- A step keeps what no step changes.
 pub step-fixed : (s : State) → step s .fixed ≡ s .fixed
 unfolding step apply
@@ -282,5 +192,7 @@ unfolding step apply
 step-control s = refl
 
 -- A step of a well-formed record gives a well-formed record.
-pub step-fit : (s : State) → Typed s → Fit (s .fixed) (s .control) → Fit (step s .fixed) (step s .control)
-step-fit s t f = rw (step-fixed s, step-control s) (decision-fit s f (legal s t))
+pub step-fit : (s : State) → Ready s → Fit (machineOf (step s))
+step-fit s r =
+    same-fit (machineOf (withControl s (controlAfter s (decide s)))) (machineOf (step s)) (sym (step-fixed s))
+    (sym (step-control s)) (decision-fit s (r .fit) (legal s r))

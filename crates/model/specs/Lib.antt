@@ -16,4 +16,3 @@ pub mod Facts
 pub mod Seen
 pub mod Noninterference
 pub mod Certificate
-pub mod Witness

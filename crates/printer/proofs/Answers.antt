@@ -13,7 +13,7 @@ use Rattle.model.specs.Record.{Bank, Machine, stateOf}
 use Rattle.model.specs.WellFormed.{wellFormed, lentWhole}
 use Rattle.model.specs.Listing.{listing, Printing, notPrinted, print}
 use Rattle.model.proofs.Truth.{and-iff}
-use Rattle.model.proofs.WellFormed.{fit}
+use Rattle.model.proofs.Ready.{fit}
 use Rattle.writer.specs.Writing.{over, Wrote}
 use Rattle.printer.specs.Printing.{printedWhole, Entries}
 
@@ -44,7 +44,7 @@ module _ (r : Machine) (m : Bank) (out : List ℕ) where
   module _ (b : Bool) (e : b ≡ wellFormed r) (t : b ≡ true) where
     -- It has at most 2,048 words.
     size-most : r .fixed .size ≤ 2048
-    size-most = fit (stateOf r m) (sym e ∙ t) .fixed .sizeHigh
+    size-most = fit r (sym e ∙ t) .fixed .sizeHigh
 
     -- 6 where lent words or labels are shorter than the size.
     pub short-memory : (w : Bool)

@@ -17,7 +17,7 @@ use Rattle.model.specs.Record.{Bank, State, machineOf}
 use Rattle.model.specs.WellFormed.{endInRange, wellFormed}
 use Rattle.model.specs.Listing.{decimal, line, callLine, differs, entryLine, entryLines, listing}
 use Rattle.model.proofs.Truth.{and-iff, choice}
-use Rattle.model.proofs.WellFormed.{Fit, CallsFit, none, gate, upcall, both, fit}
+use Rattle.model.proofs.Ready.{Fit, CallsFit, none, gate, upcall, both, fit}
 use Rattle.writer.proofs.Decimal.{digits-below}
 use Rattle.writer.proofs.Fields.{three-fields, five-fields, six-fields}
 use Rattle.printer.specs.Printing.{endFields}
@@ -64,7 +64,7 @@ end-most c e =
           (h .1),
     )
 
-end-bound : (s : State) → Fit (s .fixed) (s .control) → InTypes s → length (line 69 (endFields (s .control))) ≤ 34
+end-bound : (s : State) → Fit (machineOf s) → InTypes s → length (line 69 (endFields (s .control))) ≤ 34
 end-bound s f t =
     let c = s .control in
     let e = end-most c (f .end) in
@@ -143,7 +143,7 @@ entries-bound letter b w n t h = some-entries letter b w n 0 n t h (omega arith)
 -- 34 for each of two F lines, 20 for each of 16 R lines and 22 for each of 2,048 W lines.
 pub listing-bound : (s : State) → wellFormed (machineOf s) ≡ true → InTypes s → length (listing s) ≤ 45478
 listing-bound s e t =
-    let f = fit s e in
+    let f = fit (machineOf s) e in
     rw (listing-length s)
     (omega (
       arith,

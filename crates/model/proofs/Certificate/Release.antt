@@ -24,9 +24,10 @@ use Rattle.model.specs.Noninterference.{downgrades, callsGate, gateCalls
 use Rattle.model.specs.Certificate.{isRelabelling, triesRelease, releases, attempts, leadsWithin, atLarge, breaks}
 use Rattle.model.proofs.Truth.{either, clash, and-three, or-iff}
 use Rattle.model.proofs.Writes.{same, label-after-label, label-after-value}
-use Rattle.model.proofs.Legal.{_⊑_, LegalWrite, keeps, sets, marks, LegalChange, writes, goes, enters, calls, gates, returns, stops, Legal, rests, spends, stalls, closes, carries, legal}
+use Rattle.model.proofs.Ready.{_⊑_, Ready}
+use Rattle.model.proofs.Legal.{LegalWrite, keeps, sets, marks, LegalChange, writes, goes, enters, calls, gates, returns, stops, Legal, rests, spends, stalls, closes, carries, legal}
 use Rattle.model.proofs.WellFormed.{step-control}
-use Rattle.model.proofs.Step.{Ready, there, step-write}
+use Rattle.model.proofs.Step.{there, step-write}
 use Rattle.model.proofs.Noninterference.Sight.{same-location}
 use Rattle.model.proofs.Noninterference.Hidden.{outside-on}
 use Rattle.model.proofs.Noninterference.Visible.{late, in-time-late, step-label}
@@ -281,7 +282,7 @@ step-provisos ℓ s r a b t = record { downgrade = no-downgrade ℓ s r a; gate 
         → within ℓ (step s .control .pair .pc) ≡ z → (x && not y && z) ≡ false
     go true true z g o i = refl
     go true false true g o i =
-        clash (large ℓ s (legal s (r .typed)) g o (ap (λ (c : Control). within ℓ (c .pair .pc)) (sym (step-control s)) ∙ i)) b
+        clash (large ℓ s (legal s r) g o (ap (λ (c : Control). within ℓ (c .pair .pc)) (sym (step-control s)) ∙ i)) b
     go true false false g o i = refl
     go false y z g o i = refl
 

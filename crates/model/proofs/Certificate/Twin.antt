@@ -17,7 +17,7 @@ use Rattle.model.specs.declared.CallGate.{CallGate}
 use Rattle.model.specs.declared.Fixed.{Fixed}
 use Rattle.model.specs.declared.Control.{Control}
 use Rattle.model.specs.declared.Call.{Call}
-use Rattle.model.specs.Record.{State, Location, register, valueAt, labelAt, pairOf, newest, inUpcall}
+use Rattle.model.specs.Record.{State, Location, register, machineOf, valueAt, labelAt, pairOf, newest, inUpcall}
 use Rattle.model.specs.Word.{Op, aField, bField}
 use Rattle.model.specs.Ops.{Change, write, goto, enter, openUpcall, openGate, closeGate, stop, noGate, isLabel, La, Lb, Rb}
 use Rattle.model.specs.Step.{Fetched, failed, fetched, fetch, Decision, rest, spend, stall, close, carry, endTick, running, decide, isCarried, withControl, changed, controlAfter, restored, step}
@@ -25,9 +25,10 @@ use Rattle.model.specs.Seen.{within, seenControl}
 use Rattle.model.specs.Noninterference.{callsGate, timedFromOutside, StepProvisos, SameSetting}
 use Rattle.model.specs.Certificate.{isRelabelling, triesRelease, releases, attempts, leadsWithin, atLarge, Certificate, releaseFrom, breaks, breakAt}
 use Rattle.model.proofs.Truth.{either, clash, and-iff, not-iff, same-outcome}
-use Rattle.model.proofs.Legal.{_⊑_, LegalChange, writes, goes, enters, calls, gates, returns, stops, Legal, rests, spends, stalls, closes, carries, legal}
-use Rattle.model.proofs.WellFormed.{Fit, top-upcall, step-fixed, step-control}
-use Rattle.model.proofs.Step.{Ready, step-ready, step-ended, step-passes, end-tick-late}
+use Rattle.model.proofs.Ready.{_⊑_, Fit, Ready}
+use Rattle.model.proofs.Legal.{LegalChange, writes, goes, enters, calls, gates, returns, stops, Legal, rests, spends, stalls, closes, carries, legal}
+use Rattle.model.proofs.WellFormed.{top-upcall, step-fixed, step-control}
+use Rattle.model.proofs.Step.{step-ready, step-ended, step-passes, end-tick-late}
 use Rattle.model.proofs.Noninterference.Sight.{Alike, alike-sym, alike-trans, flows-equal, flows-alike}
 use Rattle.model.proofs.Noninterference.Hidden.{hidden-step, Lost, lost-decision, restored-closed, opened-upcall, opened-gate, Away, back, Still, Onward, still, returned, away-step}
 use Rattle.model.proofs.Noninterference.Visible.{setting-sym, Together, bare, Similar, fetch-same, decide-similar, a-exists, b-exists, visible-control, visible-alike}
@@ -166,10 +167,10 @@ shut-step ℓ s r l h =
     (λ g.
     ⊎-elim
     (λ (i : within ℓ (controlAfter s (decide s) .pair .pc) ≡ true).
-    clash (large ℓ s (legal s (r .typed)) g (l .outside) i) (shut-large ℓ s h))
+    clash (large ℓ s (legal s r) g (l .outside) i) (shut-large ℓ s h))
     (λ (i : within ℓ (controlAfter s (decide s) .pair .pc) ≡ false). i)
     (either (within ℓ (controlAfter s (decide s) .pair .pc))))
-    (legal s (r .typed)))
+    (legal s r))
 
 -- ---- away in an upcall
 
@@ -250,7 +251,7 @@ home ℓ (suc n) s r a l h =
 
 -- ---- after a step from within, an open upcall was kept with the pc label within
 
-module _ (ℓ : ℕ) (s : State) (f : Fit (s .fixed) (s .control)) (i : within ℓ (s .control .pair .pc) ≡ true) where
+module _ (ℓ : ℕ) (s : State) (f : Fit (machineOf s)) (i : within ℓ (s .control .pair .pc) ≡ true) where
   -- An upcall that was open before: what it keeps flows to p.
   kept-before : inUpcall (s .control) ≡ true → within ℓ (pairOf (newest (s .control)) .pc) ≡ true
   unfolding inUpcall newest
@@ -279,7 +280,7 @@ module _ (ℓ : ℕ) (s : State) (f : Fit (s .fixed) (s .control)) (i : within �
 
 kept-step : (ℓ : ℕ) (s : State) → Ready s → within ℓ (s .control .pair .pc) ≡ true → inUpcall (step s .control) ≡ true
     → within ℓ (pairOf (newest (step s .control)) .pc) ≡ true
-kept-step ℓ s r i u = rw (step-control s) (kept-decision ℓ s (r .fit) i (legal s (r .typed)) (rw (step-control s) at u))
+kept-step ℓ s r i u = rw (step-control s) (kept-decision ℓ s (r .fit) i (legal s r) (rw (step-control s) at u))
 
 -- ---- how the two stand
 

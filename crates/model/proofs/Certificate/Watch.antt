@@ -14,7 +14,8 @@ use Rattle.model.specs.Noninterference.{timedFromOutside}
 use Rattle.model.specs.Certificate.{attempts, atLarge, Certified, Certificate, whole, releaseFrom, breaks, breakAt, watch, certify}
 use Rattle.model.proofs.Truth.{choice, either, clash}
 use Rattle.model.proofs.WellFormed.{step-fixed}
-use Rattle.model.proofs.Step.{Ready, step-ready, step-ended, step-passes}
+use Rattle.model.proofs.Ready.{Ready}
+use Rattle.model.proofs.Step.{step-ready, step-ended, step-passes}
 use Rattle.model.proofs.Run.{steps-leave}
 use Rattle.model.proofs.Certificate.Release.{unbroken}
 

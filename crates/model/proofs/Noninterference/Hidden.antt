@@ -14,7 +14,7 @@ use Rattle.model.specs.declared.Pair.{Pair}
 use Rattle.model.specs.declared.Control.{Control}
 use Rattle.model.specs.declared.Call.{Call}
 use Rattle.model.specs.declared.Call.the-variants.{Empty, Gate, Upcall}
-use Rattle.model.specs.Record.{State, Location, register, word, valueAt, labelAt, isEmpty, isGate, isUpcall, returnOf, pairOf, endTickOf, newest, inUpcall}
+use Rattle.model.specs.Record.{State, Location, register, word, machineOf, valueAt, labelAt, isEmpty, isGate, isUpcall, returnOf, pairOf, endTickOf, newest, inUpcall}
 use Rattle.model.specs.WellFormed.{endInRange}
 use Rattle.model.specs.Ops.{Write, Change}
 use Rattle.model.specs.Step.{Decision, carry, endTick, finish, running, decide, written, writeOf, withControl, restored, changed, controlAfter, apply, step}
@@ -22,9 +22,10 @@ use Rattle.model.specs.Seen.{within, exists, seenAt}
 use Rattle.model.specs.Noninterference.{callsGate, gateCallsIn, StepProvisos}
 use Rattle.model.proofs.Truth.{clash}
 use Rattle.model.proofs.Writes.{written-fixed}
-use Rattle.model.proofs.Legal.{_⊑_, LegalWrite, keeps, sets, marks, LegalChange, writes, goes, enters, calls, gates, returns, stops, Legal, rests, spends, stalls, closes, carries, legal}
-use Rattle.model.proofs.WellFormed.{Fit, CallsFit, none, gate, upcall, both, step-control}
-use Rattle.model.proofs.Step.{Ready, there, step-write, step-clock, end-tick-late}
+use Rattle.model.proofs.Ready.{_⊑_, Fit, CallsFit, none, gate, upcall, both, Ready}
+use Rattle.model.proofs.Legal.{LegalWrite, keeps, sets, marks, LegalChange, writes, goes, enters, calls, gates, returns, stops, Legal, rests, spends, stalls, closes, carries, legal}
+use Rattle.model.proofs.WellFormed.{step-control}
+use Rattle.model.proofs.Step.{there, step-write, step-clock, end-tick-late}
 use Rattle.model.proofs.Noninterference.Sight as sight
 use Rattle.model.proofs.Noninterference.Sight.{Alike, alike-trans, inside-exists, Hidden, Fits, hidden-write}
 
@@ -104,7 +105,7 @@ opened-gate k q (upcall h) n = clash n refl
 opened-gate k q (both h u) n = clash n refl
 
 -- A change from outside for good leaves it so: a gate call, by the proviso.
-lost-change : (ℓ : ℕ) (s : State) {ticks : ℕ} {c : Change} (k : ℕ) → Fit (s .fixed) (s .control) → Lost ℓ (s .control)
+lost-change : (ℓ : ℕ) (s : State) {ticks : ℕ} {c : Change} (k : ℕ) → Fit (machineOf s) → Lost ℓ (s .control)
     → (callsGate (carry ticks c) ≡ true → within ℓ (changed (s .control) k c .pair .pc) ≡ false)
     → LegalChange s ticks c → Lost ℓ (changed (s .control) k c)
 unfolding changed restored inUpcall newest
@@ -123,7 +124,7 @@ lost-change ℓ s k f l g (returns r p) =
 lost-change ℓ s k f l g (stops n) = record { outside = l .outside; closed = l .closed }
 
 -- So does a decision.
-pub lost-decision : (ℓ : ℕ) (s : State) {d : Decision} → Fit (s .fixed) (s .control) → Lost ℓ (s .control)
+pub lost-decision : (ℓ : ℕ) (s : State) {d : Decision} → Fit (machineOf s) → Lost ℓ (s .control)
     → (callsGate d ≡ true → within ℓ (controlAfter s d .pair .pc) ≡ false) → Legal s d → Lost ℓ (controlAfter s d)
 unfolding controlAfter restored inUpcall newest
 lost-decision ℓ s f l g (rests r) = l
@@ -142,7 +143,7 @@ gate-proviso ℓ s e p g = rw (g, e) at (p .gate)
 -- A step from outside for good stays so.
 pub lost-step : (ℓ : ℕ) (s : State) → Ready s → Lost ℓ (s .control) → StepProvisos ℓ s (step s) → Lost ℓ (step s .control)
 lost-step ℓ s r l p =
-    rw (step-control s) (lost-decision ℓ s (r .fit) l (gate-proviso ℓ s (l .outside) p) (legal s (r .typed)))
+    rw (step-control s) (lost-decision ℓ s (r .fit) l (gate-proviso ℓ s (l .outside) p) (legal s r))
 
 -- ---- outside in an upcall that was kept with the pc label within
 
@@ -191,7 +192,7 @@ upcall-only Empty e = clash refl (sym e)
 upcall-only (Gate k q) e = clash refl (sym e)
 upcall-only (Upcall k q t) e = (refl, refl)
 
-module _ (ℓ : ℕ) (s u : State) (same : u .fixed ≡ s .fixed) (f : Fit (s .fixed) (s .control)) (a : Away ℓ s) where
+module _ (ℓ : ℕ) (s u : State) (same : u .fixed ≡ s .fixed) (f : Fit (machineOf s)) (a : Away ℓ s) where
   -- A change in the upcall: what would open or close another call can't be carried out there.
   away-change : {ticks : ℕ} {c : Change} (k : ℕ) → running s ≡ true → LegalChange s ticks c
       → Onward ℓ s (withControl u (changed (s .control) k c))
@@ -223,7 +224,7 @@ module _ (ℓ : ℕ) (s u : State) (same : u .fixed ≡ s .fixed) (f : Fit (s .f
 pub away-step : (ℓ : ℕ) (s : State) → Ready s → Away ℓ s → Onward ℓ s (step s)
 unfolding step apply
 away-step ℓ s r a =
-    away-decision ℓ s (written s (writeOf s (decide s))) (written-fixed s (writeOf s (decide s))) (r .fit) a (legal s (r .typed))
+    away-decision ℓ s (written s (writeOf s (decide s))) (written-fixed s (writeOf s (decide s))) (r .fit) a (legal s r)
 
 -- In an upcall nothing finishes past the end tick + 1.
 in-upcall-soon : (s : State) {d : Decision} → s .control .clock ≤ endTick s → inUpcall (s .control) ≡ true → Legal s d
@@ -238,4 +239,4 @@ in-upcall-soon s l u (carries r long m v h) = let k = v u in omega arith
 -- While it is away it finishes nothing past the end tick + 1.
 pub away-soon : (ℓ : ℕ) (s : State) → Ready s → Away ℓ s → step s .control .clock ≤ endTick s + 1
 away-soon ℓ s r a =
-    rw (step-clock s) (in-upcall-soon s (end-tick-late s (r .fit) (a .upcall)) (a .upcall) (legal s (r .typed)))
+    rw (step-clock s) (in-upcall-soon s (end-tick-late s (r .fit) (a .upcall)) (a .upcall) (legal s r))

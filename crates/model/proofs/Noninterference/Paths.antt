@@ -18,9 +18,9 @@ use Rattle.model.specs.Step.{endTick, running, withControl, step, steps}
 use Rattle.model.specs.Seen.{within, seen, unseen, seenControl, LowEquivalent}
 use Rattle.model.specs.Noninterference.{StepProvisos, timedFromOutside, SameSetting}
 use Rattle.model.proofs.Truth.{either, clash, and-iff, not-iff}
-use Rattle.model.proofs.Legal.{_⊑_}
+use Rattle.model.proofs.Ready.{_⊑_, Ready}
 use Rattle.model.proofs.WellFormed.{step-fixed}
-use Rattle.model.proofs.Step.{Ready, step-ready}
+use Rattle.model.proofs.Step.{step-ready}
 use Rattle.model.proofs.Run.{steps-ended, steps-ready, steps-leave}
 use Rattle.model.proofs.Noninterference.Sight.{Alike, alike-sym, alike-trans}
 use Rattle.model.proofs.Noninterference.Hidden.{hidden-step, Lost, lost-step, Away, Still, still, returned, Onward, back, away-step, away-soon}

@@ -15,7 +15,8 @@ use Rattle.model.specs.Step.{written}
 use Rattle.model.specs.Seen.{within, exists, hidden, shown, seenAt}
 use Rattle.model.proofs.Truth.{either, clash, same-outcome}
 use Rattle.model.proofs.Writes.{There, same, value-after-value, label-after-label, label-after-value, value-after-label, written-fixed}
-use Rattle.model.proofs.Legal.{_⊑_, Inside}
+use Rattle.model.proofs.Ready.{_⊑_}
+use Rattle.model.proofs.Legal.{Inside}
 
 -- A location that exists is inside, and one that is inside exists.
 pub inside : (s : State) (x : Location) → exists s x ≡ true → Inside s x

@@ -20,8 +20,8 @@ use Rattle.causes.specs.declared.Cause.the-variants.{ShortMemory}
 use Rattle.model.specs.Answer.{Answer, answer, refused, done}
 use Rattle.model.specs.Noninterference.{Kind, stepCall, runCall, Lent, whole, part, Invocation, lend, regain, answerOf, answered, after, afterAll, runStates, workStates, callStates, trace, final, atTick, reached, StepsProvisos}
 use Rattle.model.proofs.Truth.{either, not-iff}
-use Rattle.model.proofs.WellFormed.{fits}
-use Rattle.model.proofs.Step.{Ready, step-ready, step-passes}
+use Rattle.model.proofs.Ready.{fits, Ready}
+use Rattle.model.proofs.Step.{step-ready, step-passes}
 use Rattle.model.proofs.Run.{steps-ended, steps-add, steps-ready}
 use Rattle.model.proofs.Noninterference.Paths.{Allowed, Rests}
 
@@ -115,7 +115,7 @@ answer-short : (q : Invocation) (s : State) → Ready s
     → answered q s ≡ refused ShortMemory (machineOf s) (lentOf q s)
 unfolding answered answer
 answer-short q s r e =
-    ap (λ (f : Machine → Bank → Answer). f (machineOf s) (lentOf q s)) (answer-work (q .kind)) ∙ rw (fits s (r .fit), e)
+    ap (λ (f : Machine → Bank → Answer). f (machineOf s) (lentOf q s)) (answer-work (q .kind)) ∙ rw (fits (machineOf s) (r .fit), e)
 
 -- The answer of a call that is lent all.
 answer-whole : (k : Kind) (s : State) → Ready s
@@ -123,7 +123,7 @@ answer-whole : (k : Kind) (s : State) → Ready s
 unfolding answered answer lend lentWhole
 answer-whole k s r =
     ap (λ (f : Machine → Bank → Answer). f (machineOf s) (s .memory)) (answer-work k)
-    ∙ rw (fits s (r .fit), le-leb _ _ (r .words), le-leb _ _ (r .labels))
+    ∙ rw (fits (machineOf s) (r .fit), le-leb _ _ (r .words), le-leb _ _ (r .labels))
 
 -- A call that is lent too little changes nothing.
 short-row : (q : Invocation) (s : State) → Ready s

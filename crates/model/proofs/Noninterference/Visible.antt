@@ -22,9 +22,10 @@ use Rattle.model.specs.Seen.{within, exists}
 use Rattle.model.specs.Noninterference.{SameSetting, StepProvisos, downgrades}
 use Rattle.model.proofs.Truth.{either, clash, and-iff, same-choice}
 use Rattle.model.proofs.Writes.{same, label-after-label}
-use Rattle.model.proofs.Legal.{_⊑_, Inside, LegalWrite, keeps, sets, marks}
+use Rattle.model.proofs.Ready.{_⊑_, Ready}
+use Rattle.model.proofs.Legal.{Inside, LegalWrite, keeps, sets, marks}
 use Rattle.model.proofs.WellFormed.{step-control}
-use Rattle.model.proofs.Step.{Ready, there, step-write}
+use Rattle.model.proofs.Step.{there, step-write}
 use Rattle.model.proofs.Noninterference.Sight as sight
 use Rattle.model.proofs.Noninterference.Sight.{Alike, alike-sym, alike-trans, inside-exists, seen-equal, flows-equal, flows-alike, Visible, Hidden, Fits, hidden-write, visible-write}
 use Rattle.model.proofs.Noninterference.Hidden.{legal-fits, step-written}

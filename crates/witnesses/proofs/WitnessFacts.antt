@@ -8,30 +8,28 @@ use mathlib.Core.Bool.{Bool, true, false, not, _||_, or-true}
 use mathlib.Core.List.{List, [], _∷_}
 use native.Mathlib.Omega.{arith}
 use lib.Dec.{leb, ltb, eqb}
-use lib.Count.{leadingZeros}
 use lib.ListN.{getD}
 use borrow.Author.Tests.{ltb-true, eqb-true, eqb-false, eq-eqb, le-leb}
 use Rattle.model.specs.declared.Pair.{Pair}
 use Rattle.model.specs.declared.Call.{Call}
 use Rattle.model.specs.declared.Call.the-variants.{Empty, Gate, Upcall}
-use Rattle.labels.specs.Principals.{subset, label, integrity, confidentiality, flows, join, meet, reflection, uncompromised, validPair, lowest, mayRaise, mayRelabel}
-use Rattle.model.specs.Record.{State, Location, register, word, valueAt, labelAt, newest, inUpcall}
-use Rattle.model.specs.WellFormed.{fixedInRange, endInRange, upcallWellFormed, wellFormed, lentWhole}
-use Rattle.model.specs.Word.{opField, aField, bField, cField, dField, nField, decode, compute}
-use Rattle.model.specs.Ops.{isLabel, significantBits, multiplyTicks, noGate, newPairAllowed, mayUpcall, mayCallGate, mayReturn, table}
-use Rattle.model.specs.Step.{fetch, endTick, finish, fault, attempt, beyondLimit, inLimit, running, decide, written, causeAllowed, causeWrite, writeOf, restored, changed, controlAfter, apply, step, steps, run}
+use Rattle.labels.specs.Principals.{label, meet}
+use Rattle.model.specs.Record.{State, Location, register, word}
+use Rattle.model.specs.Ops.{noGate, table}
+use Rattle.model.specs.Step.{running, step, steps}
 use Rattle.model.specs.Answer.{answer}
 use Rattle.model.specs.Text.{isDigit, digits, decimalFrom, wellWritten, number, field, triple, readLine, linesIn, lines}
 use Rattle.causes.specs.Tests.{firstRefusal}
 use Rattle.model.specs.Load.{headerInRange, gateInRange, entryInRange, inOrder, rising, headerTests, lineTests, judge, judgeHeader, judgeText, cleared, fill, load}
 use Rattle.model.specs.Listing.{decimalIn, decimal, fields, line, differs, entryLine, entryLines}
 use Rattle.model.specs.Program.{stateOfLoad}
 use Rattle.model.specs.Seen.{within, exists, Seen, hidden, shown, seenAt, SeenControl, unseen, seen, seenControl, LowEquivalent}
 use Rattle.model.specs.Noninterference.{Invocation, lend, regain, answered, after, runStates, workStates, callStates, trace, final, atTick, reached, downgrades, gateCallsIn, timedFromOutside, StepsProvisos, Provisos, SameSetting}
-use Rattle.model.specs.Witness.{each, eachLocation, sameSeen, samePair, sameCall, sameControl, sameSeenControl, lowEquivalent, noDowngrade, noGateIn, timedWithin, upTo, provisos, provisosHold, qualifies, textOf, Loads, Counterexample, fixedOf, usual, interrupted, oneRun, left, right, leftAt, rightAt, mainTable, downgrading, callingGate, timedBySecret, under, nothingThere, gateCalled, unbrokenTable, reachedTable}
+use Rattle.witnesses.specs.Witness.{each, eachLocation, sameSeen, samePair, sameCall, sameControl, sameSeenControl, lowEquivalent, noDowngrade, noGateIn, timedWithin, upTo, provisos, provisosHold, qualifies, textOf, Loads, Counterexample, fixedOf, usual, interrupted, oneRun, left, right, leftAt, rightAt, mainTable, downgrading, callingGate, timedBySecret, under, nothingThere, gateCalled, unbrokenTable, reachedTable}
 use Rattle.model.specs.Facts.{every}
+use Rattle.model.proofs.Facts.{stepping}
 use Rattle.model.proofs.Truth.{either, clash, and-iff, not-iff}
 use Rattle.model.proofs.Noninterference.{noninterference}
 
 -- ---- what passes for each
 
@@ -272,9 +270,9 @@ counterexample ℓ k s t qs met l m e p q =
 
 -- ---- the tables
 
--- All that a table computes with: the definitions of labels too. Who says `unfolding computing` opens each of them.
+-- All that a table computes with, beyond a step. Who says `unfolding computing` opens each of them.
 unfoldable pub computing : Bool
-unfolding subset label integrity confidentiality flows join meet reflection uncompromised validPair lowest mayRaise mayRelabel newest inUpcall valueAt labelAt fixedInRange endInRange upcallWellFormed wellFormed lentWhole opField aField bField cField dField nField decode compute isLabel significantBits multiplyTicks newPairAllowed mayUpcall mayCallGate mayReturn table fetch endTick finish fault attempt beyondLimit inLimit running decide written causeAllowed causeWrite writeOf restored changed controlAfter apply step steps run answer within exists seenAt seenControl lend regain answered after runStates workStates callStates trace final atTick reached downgrades gateCallsIn timedFromOutside sameSeen samePair sameCall sameControl sameSeenControl leadingZeros isDigit digits decimalFrom wellWritten number field triple readLine linesIn lines headerInRange gateInRange entryInRange inOrder rising headerTests lineTests firstRefusal judge judgeHeader judgeText cleared fill load decimalIn decimal fields line differs entryLine entryLines
+unfolding stepping answer within exists seenAt seenControl lend regain answered after runStates workStates callStates trace final atTick reached downgrades gateCallsIn timedFromOutside sameSeen samePair sameCall sameControl sameSeenControl isDigit digits decimalFrom wellWritten number field triple readLine linesIn lines headerInRange gateInRange entryInRange inOrder rising headerTests lineTests firstRefusal judge judgeHeader judgeText cleared fill load decimalIn decimal fields line differs entryLine entryLines
 computing = true
 
 -- The two machines of the main witness differ as their table says, at a sound label and at one that isn't.

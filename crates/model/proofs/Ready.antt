@@ -1,0 +1,134 @@
+-- What a well-formed state has: the definition's test of its record taken apart, what the types say of its lists, and
+-- that its memory is lent whole. Every law about a step rests on it.
+-- Assumes nothing.
+use Prim.Native.Nat.{ℕ, _^_, _<_, _≤_}
+use mathlib.Core.Path.{_≡_, refl}
+use mathlib.Core.Bool.{true}
+use lib.ListN.{length}
+use borrow.Author.Tests.{leb-true, le-leb, ltb-true, lt-ltb}
+use Rattle.labels.specs.Label.{principals}
+use Rattle.labels.proofs.Laws.{Flows}
+use Rattle.model.specs.declared.Pair.{Pair}
+use Rattle.model.specs.declared.Fixed.{Fixed}
+use Rattle.model.specs.declared.Control.{Control}
+use Rattle.model.specs.declared.Call.{Call}
+use Rattle.model.specs.declared.Call.the-variants.{Empty, Gate, Upcall}
+use Rattle.model.specs.Record.{Machine, State, machineOf}
+use Rattle.model.specs.WellFormed.{isValid, fixedInRange, endInRange, upcallWellFormed, callsWellFormed, wellFormed}
+use Rattle.model.specs.Typed.{Typed}
+use Rattle.model.proofs.Truth.{and-iff, clash}
+
+-- The one label flows to the other.
+abbrev pub _⊑_ : ℕ → ℕ → Type 0
+_⊑_ = Flows principals
+
+infix 4 _⊑_
+-- ---- the test taken apart
+
+-- The ranges of size, limit and number of gates.
+pub record FixedFit (f : Fixed) : Type 0 where
+  pub sizeLow : 1 ≤ f .size
+  pub sizeHigh : f .size ≤ 2048
+  pub limitLow : 1 ≤ f .limit
+  pub limitHigh : f .limit ≤ 2 ^ 24
+  pub gates : f .count ≤ 8
+
+-- What is asked of an upcall that is kept while the pair is `now` and the clock stands at `clock`.
+pub record UpcallFit (now : Pair) (clock : ℕ) (q : Pair) (e : ℕ) : Type 0 where
+  pub valid : isValid q ≡ true
+  pub pc : q .pc ⊑ now .pc
+  pub timing : q .timing ⊑ now .timing
+  pub started : clock ≤ e
+  pub bounded : e < 2 ^ 33
+
+-- The four shapes of the two places for open calls.
+pub data CallsFit (now : Pair) (clock : ℕ) : Call → Call → Type 0 where
+  none : CallsFit now clock Empty Empty
+  gate : {k : ℕ} {q : Pair} → isValid q ≡ true → CallsFit now clock (Gate k q) Empty
+  upcall : {k e : ℕ} {q : Pair} → UpcallFit now clock q e → CallsFit now clock (Upcall k q e) Empty
+  both : {k j e : ℕ} {q r : Pair} → isValid q ≡ true → UpcallFit now clock r e → CallsFit now clock (Gate k q) (Upcall j r e)
+
+-- What a well-formed record has.
+pub record Fit (r : Machine) : Type 0 where
+  pub fixed : FixedFit (r .fixed)
+  pub end : endInRange (r .control) ≡ true
+  pub clock : r .control .clock ≤ r .fixed .limit
+  pub valid : isValid (r .control .pair) ≡ true
+  pub calls : CallsFit (r .control .pair) (r .control .clock) (r .control .first) (r .control .second)
+
+fixed-fit : (f : Fixed) → fixedInRange f ≡ true → FixedFit f
+unfolding fixedInRange
+fixed-fit f e =
+    let h = simp and-iff at e in
+    record {
+      sizeLow = leb-true 1 (f .size) (h .0 .0 .0 .0);
+      sizeHigh = leb-true (f .size) 2048 (h .0 .0 .0 .1);
+      limitLow = leb-true 1 (f .limit) (h .0 .0 .1);
+      limitHigh = leb-true (f .limit) (2 ^ 24) (h .0 .1);
+      gates = leb-true (f .count) 8 (h .1);
+    }
+
+fixed-fits : {f : Fixed} → FixedFit f → fixedInRange f ≡ true
+unfolding fixedInRange
+fixed-fits h = rw (le-leb _ _ (h .sizeLow), le-leb _ _ (h .sizeHigh), le-leb _ _ (h .limitLow), le-leb _ _ (h .limitHigh), le-leb _ _ (h .gates))
+
+upcall-fit : (c : Control) (q : Pair) (e : ℕ) → upcallWellFormed c q e ≡ true → UpcallFit (c .pair) (c .clock) q e
+unfolding upcallWellFormed
+upcall-fit c q e t =
+    let h = simp and-iff at t in
+    record {
+      valid = h .0 .0 .0 .0;
+      pc = record { holds = h .0 .0 .0 .1 };
+      timing = record { holds = h .0 .0 .1 };
+      started = leb-true (c .clock) e (h .0 .1);
+      bounded = ltb-true e (2 ^ 33) (h .1);
+    }
+
+upcall-fits : (c : Control) {q : Pair} {e : ℕ} → UpcallFit (c .pair) (c .clock) q e → upcallWellFormed c q e ≡ true
+unfolding upcallWellFormed
+upcall-fits c h = rw (h .valid, h .pc .holds, h .timing .holds, le-leb _ _ (h .started), lt-ltb _ _ (h .bounded))
+
+calls-fit : (c : Control) (x y : Call) → callsWellFormed c x y ≡ true → CallsFit (c .pair) (c .clock) x y
+calls-fit c Empty Empty e = none
+calls-fit c Empty (Gate k q) e = clash e refl
+calls-fit c Empty (Upcall k q t) e = clash e refl
+calls-fit c (Gate k q) Empty e = gate e
+calls-fit c (Gate k q) (Gate j r) e = clash e refl
+calls-fit c (Gate k q) (Upcall j r t) e = let h = simp and-iff at e in both (h .0) (upcall-fit c r t (h .1))
+calls-fit c (Upcall k q t) Empty e = upcall (upcall-fit c q t e)
+calls-fit c (Upcall k q t) (Gate j r) e = clash e refl
+calls-fit c (Upcall k q t) (Upcall j r u) e = clash e refl
+
+calls-fits : (c : Control) {x y : Call} → CallsFit (c .pair) (c .clock) x y → callsWellFormed c x y ≡ true
+calls-fits c none = refl
+calls-fits c (gate h) = h
+calls-fits c (upcall h) = upcall-fits c h
+calls-fits c (both h k) = rw (h, upcall-fits c k)
+
+-- A record that passes the test is well-formed in each respect.
+pub fit : (r : Machine) → wellFormed r ≡ true → Fit r
+unfolding wellFormed
+fit r e =
+    let h = simp and-iff at e in
+    record {
+      fixed = fixed-fit (r .fixed) (h .0 .0 .0 .0);
+      end = h .0 .0 .0 .1;
+      clock = leb-true (r .control .clock) (r .fixed .limit) (h .0 .0 .1);
+      valid = h .0 .1;
+      calls = calls-fit (r .control) (r .control .first) (r .control .second) (h .1);
+    }
+
+-- A record that is well-formed in each respect passes the test.
+pub fits : (r : Machine) → Fit r → wellFormed r ≡ true
+unfolding wellFormed
+fits r h = rw (fixed-fits (h .fixed), h .end, le-leb _ _ (h .clock), h .valid, calls-fits (r .control) (h .calls))
+
+-- ---- the state
+
+-- A state that a call is carried out on: its record is well-formed, its lists are as the types say, and the lent words and
+-- labels are each at least as long as the size.
+pub record Ready (s : State) : Type 0 where
+  pub fit : Fit (machineOf s)
+  pub typed : Typed s
+  pub words : s .fixed .size ≤ length (s .memory .values)
+  pub labels : s .fixed .size ≤ length (s .memory .labels)

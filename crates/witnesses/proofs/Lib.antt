@@ -1,0 +1,2 @@
+pub mod WitnessFacts
+pub mod CertificateFacts
