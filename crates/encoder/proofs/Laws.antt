@@ -10,12 +10,11 @@ use Rattle.model.specs.declared.CallGate.{CallGate}
 use Rattle.model.specs.declared.Call.{Call}
 use Rattle.model.specs.Record.{Machine}
 use Rattle.model.specs.Ops.{noGate}
-use Rattle.encoder.specs.Layout.{callWords, gatesWords, fixedWords, controlWords, wordsOf}
+use Rattle.encoder.specs.Layout.{callWords, gateWords, gatesWords, fixedWords, controlWords, wordsOf}
 use Rattle.encoder.proofs.Lists.{rows, Put, put-all, sets-then}
 
--- A gate's three words.
-abbrev pub gateWords : CallGate → List ℕ
-gateWords g = g .entry ∷ g .pair .pc ∷ g .pair .timing ∷ []
+
+
 
 pub length-gates : (gs : List CallGate) → length (gatesWords gs) ≡ 3 * length gs
 unfolding gatesWords

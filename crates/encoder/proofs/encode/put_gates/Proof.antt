@@ -6,7 +6,8 @@ use mathlib.Core.Path.{refl}
 use lib.ListN.{getD}
 use borrow.Author.Needs.{needs}
 use Rattle.model.specs.Ops.{noGate}
-use Rattle.encoder.proofs.Laws.{gateWords, put-gates}
+use Rattle.encoder.specs.Layout.{gateWords}
+use Rattle.encoder.proofs.Laws.{put-gates}
 use Rattle.encoder.proofs.Lists.{Put, put-none, put-more, put-length}
 use Rattle.encoder.proofs.encode.put_gates.Statement.{statement}
 use Rattle.encoder.proofs.encode.put_gates.Tie as tie
