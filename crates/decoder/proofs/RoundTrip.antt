@@ -2,17 +2,14 @@
 -- begins with that record's words, the record being one of the code. So exactly the buffers that begin with the words of
 -- a record hold one.
 -- Assumes nothing.
-use Prim.Native.Nat.{ℕ, zero, suc, _+_, _*_, _^_, _≤_, _<_}
-use native.Mathlib.Nat.{mod-eq-of-lt, mod-lt, eq-or-lt-of-le}
+use Prim.Native.Nat.{ℕ, _+_, _^_, _<_}
+use native.Mathlib.Nat.{mod-eq-of-lt, mod-lt}
 use native.Mathlib.Omega.{arith}
 use mathlib.Core.Path.{_≡_, refl, ap, subst, _∙_}
-use mathlib.Core.Logic.{⊎-elim}
 use mathlib.Core.Bool.{Bool, true, false, cond}
-use mathlib.Core.List.{List, [], _∷_, _++_}
+use mathlib.Core.List.{List, [], _++_}
 use lib.Dec.{eqb}
-use lib.ListN.{length, drop, getD, length-append, List·getD-append}
-use lib.Seq.{take-all, getD-at}
-use borrow.Author.Tests.{eqb-true}
+use lib.ListN.{length, drop, getD}
 use Rattle.model.specs.declared.Pair.{Pair}
 use Rattle.model.specs.declared.CallGate.{CallGate}
 use Rattle.model.specs.declared.Call.{Call}
@@ -21,7 +18,6 @@ use Rattle.model.specs.declared.Fixed.{Fixed}
 use Rattle.model.specs.declared.Control.{Control}
 use Rattle.model.specs.Record.{Bank, Machine, returnOf, pairOf, endTickOf}
 use Rattle.model.specs.Ops.{noGate}
-use Rattle.model.proofs.Truth.{and-iff}
 use Rattle.encoder.specs.Places as at
 use Rattle.encoder.specs.Layout.{kindOf, gatesWords, wordsOf, holding}
 use Rattle.encoder.proofs.Laws.{length-words}

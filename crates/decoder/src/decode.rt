@@ -114,7 +114,10 @@ fn fixed_in(buffer: &[u64]) -> Fixed
 fn control_in(buffer: &[u64]) -> Control
     ensures { λ r. ⌜ r ≡ controlIn (now (buffer .entry)) ⌝ }
 {
-    let pair = pair_from(word(buffer, places::PC_LABEL), word(buffer, places::TIMING_LABEL));
+    let pair = pair_from(
+        word(buffer, places::PC_LABEL),
+        word(buffer, places::TIMING_LABEL),
+    );
     let first = call_in(buffer, places::FIRST_CALL);
     let second = call_in(buffer, places::SECOND_CALL);
     Control {

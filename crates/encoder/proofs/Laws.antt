@@ -12,9 +12,6 @@ use Rattle.encoder.specs.Places as at
 use Rattle.encoder.specs.Layout.{gatesWords, fixedWords, controlWords, wordsOf}
 use Rattle.encoder.proofs.Lists.{Rows, sets-then}
 
-
-
-
 pub length-gates : (gs : List CallGate) → length (gatesWords gs) ≡ at.gateSpan * length gs
 unfolding gatesWords
 length-gates [] = refl

@@ -1,5 +1,6 @@
 -- Where each number of a machine record stands in a buffer of words of 64 bits, one number a word. The names are those of
--- include/jennydusk.h, and src/places.rt has the same for the code.
+-- include/jennydusk.h, which counts gates, calls, values and labels by k; here the first of each is named. src/places.rt
+-- has the same names for the code.
 -- Assumes nothing.
 use Prim.Native.Nat.{ℕ, _+_}
 
@@ -13,7 +14,7 @@ span = 76
 abbrev pub size : ℕ
 size = 0
 
--- The last tick.
+-- The limit of the clock, in ticks.
 abbrev pub limit : ℕ
 limit = 1
 
@@ -45,23 +46,7 @@ gatePcLabel = 1
 abbrev pub gateTimingLabel : ℕ
 gateTimingLabel = 2
 
--- ---- what a step changes
-
--- The pc.
-abbrev pub pc : ℕ
-pc = 28
-
--- The pc label.
-abbrev pub pcLabel : ℕ
-pcLabel = 29
-
--- The timing label.
-abbrev pub timingLabel : ℕ
-timingLabel = 30
-
--- The clock.
-abbrev pub clock : ℕ
-clock = 31
+-- ---- an open call: its words and its kinds
 
 -- How many words an open call takes: the five that follow, counted from the call's place. They are 0 where a call of its
 -- kind keeps nothing.
@@ -88,6 +73,36 @@ callTimingLabel = 3
 abbrev pub callEndTick : ℕ
 callEndTick = 4
 
+-- No call is open here.
+abbrev pub empty : ℕ
+empty = 0
+
+-- A gate call.
+abbrev pub gateCall : ℕ
+gateCall = 1
+
+-- An upcall.
+abbrev pub upcall : ℕ
+upcall = 2
+
+-- ---- what a step changes
+
+-- The pc.
+abbrev pub pc : ℕ
+pc = 28
+
+-- The pc label.
+abbrev pub pcLabel : ℕ
+pcLabel = 29
+
+-- The timing label.
+abbrev pub timingLabel : ℕ
+timingLabel = 30
+
+-- The clock.
+abbrev pub clock : ℕ
+clock = 31
+
 -- The older of the two calls.
 abbrev pub firstCall : ℕ
 firstCall = 32
@@ -111,17 +126,3 @@ firstValue = 44
 -- The label of register 0. Those of the other fifteen follow.
 abbrev pub firstLabel : ℕ
 firstLabel = 60
-
--- ---- the kinds of a call
-
--- No call is open here.
-abbrev pub empty : ℕ
-empty = 0
-
--- A gate call.
-abbrev pub gateCall : ℕ
-gateCall = 1
-
--- An upcall.
-abbrev pub upcall : ℕ
-upcall = 2

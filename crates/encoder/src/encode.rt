@@ -1,11 +1,11 @@
 // A record's words, put into a buffer: what lies behind the buffer's end is not written.
+use crate::places;
 use machine::Machine;
 use model::Call;
 use model::CallGate;
 use model::Control;
 use model::Fixed;
 use model::Pair;
-use crate::places;
 ghost use mathlib.Core.Path.{_≡_};
 ghost use Prim.Native.Nat.{_<_};
 ghost use lib.ListN.{length, set};
