@@ -8,6 +8,7 @@ use lib.ListN.{replicate}
 use Rattle.model.specs.Load.{noMachine}
 use Rattle.machine.specs.declared.Machine as struct
 use Rattle.machine.specs.Answered.{recordOf}
+use Rattle.encoder.specs.Places.{span}
 use Rattle.encoder.specs.Layout.{wordsOf}
 use Rattle.encoder.specs.Writing.{Written, write, writtenOf}
 use Rattle.decoder.specs.declared.Found.the-variants as found
@@ -16,7 +17,7 @@ use Rattle.decoder.specs.Reading.{read, readOf}
 
 -- The words of what was read, written into an array of zeros, are compared with the buffer.
 module _ (b : List ℕ) {m : struct.Machine} {words : List ℕ} {done same : Bool} (e : recordOf m ≡ recordIn b)
-    (p : writtenOf done words ≡ write (recordOf m) (replicate 76 0)) (s : same ≡ begins words b) where
+    (p : writtenOf done words ≡ write (recordOf m) (replicate span 0)) (s : same ≡ begins words b) where
   -- They fill the array.
   whole : words ≡ wordsOf (recordOf m)
   unfolding write

@@ -2,17 +2,14 @@
 -- begins with that record's words, the record being one of the code. So exactly the buffers that begin with the words of
 -- a record hold one.
 -- Assumes nothing.
-use Prim.Native.Nat.{ℕ, zero, suc, _+_, _*_, _^_, _≤_, _<_}
-use native.Mathlib.Nat.{mod-eq-of-lt, mod-lt, eq-or-lt-of-le}
+use Prim.Native.Nat.{ℕ, _+_, _^_, _<_}
+use native.Mathlib.Nat.{mod-eq-of-lt, mod-lt}
 use native.Mathlib.Omega.{arith}
 use mathlib.Core.Path.{_≡_, refl, ap, subst, _∙_}
-use mathlib.Core.Logic.{⊎-elim}
 use mathlib.Core.Bool.{Bool, true, false, cond}
-use mathlib.Core.List.{List, [], _∷_, _++_}
+use mathlib.Core.List.{List, [], _++_}
 use lib.Dec.{eqb}
-use lib.ListN.{length, drop, getD, length-append, List·getD-append}
-use lib.Seq.{take-all, getD-at}
-use borrow.Author.Tests.{eqb-true}
+use lib.ListN.{length, drop, getD}
 use Rattle.model.specs.declared.Pair.{Pair}
 use Rattle.model.specs.declared.CallGate.{CallGate}
 use Rattle.model.specs.declared.Call.{Call}
@@ -21,12 +18,12 @@ use Rattle.model.specs.declared.Fixed.{Fixed}
 use Rattle.model.specs.declared.Control.{Control}
 use Rattle.model.specs.Record.{Bank, Machine, returnOf, pairOf, endTickOf}
 use Rattle.model.specs.Ops.{noGate}
-use Rattle.model.proofs.Truth.{and-iff}
+use Rattle.encoder.specs.Places as at
 use Rattle.encoder.specs.Layout.{kindOf, gatesWords, wordsOf, holding}
 use Rattle.encoder.proofs.Laws.{length-words}
 use Rattle.decoder.specs.Held.{wordAt, low32, low8, pairFrom, callFrom, callIn, gateIn, tabulate, fixedIn, controlIn, registersIn, recordIn, begins, holds, nothing, machineIn}
 use Rattle.decoder.specs.Typed.{PairTyped, GateTyped, CallTyped, FixedTyped, ControlTyped, BankTyped, Typed}
-use Rattle.decoder.proofs.Lists.{tabulated, begins-itself}
+use Rattle.decoder.proofs.Lists.{elements, tabulate-same, length-tabulate, getD-tabulate, begins-itself, begun}
 
 -- ---- a record with every field cut to its width
 
@@ -70,11 +67,6 @@ cut r = record { fixed = cutFixed (r .fixed); control = cutControl (r .control);
 
 -- ---- what is read from a record's words is the record cut
 
--- A list that is as long as it should be is its elements.
-module _ {A : Type 0} (d : A) where
-  pub elements : {n : ℕ} (xs : List A) → length xs ≡ n → tabulate (λ (k : ℕ). getD xs k d) n ≡ xs
-  elements {n} xs e = tabulated d n xs (omega arith) ∙ take-all n xs (omega arith)
-
 -- The record r with these gates and these registers.
 abbrev parted : Machine → List CallGate → List ℕ → List ℕ → Machine
 parted r gs vs ls =
@@ -110,12 +102,6 @@ read-cut r rest g v l =
     (subst (λ (ls : List ℕ). IsCut r rest gs₀ vs₀ ls) (elements 0 (r .registers .labels) l) (written-out r _ _ _ rest)))
 
 -- ---- a record of the code is left as it is by the cut
-
-tabulate-same : {A : Type 0} (f g : ℕ → A) (n : ℕ) → ((k : ℕ) → k < n → f k ≡ g k) → tabulate f n ≡ tabulate g n
-unfolding tabulate
-tabulate-same f g zero e = refl
-tabulate-same f g (suc n) e =
-    rw (tabulate-same f g n (λ k h. e k (omega arith)), e n (omega arith)) refl
 
 pair-same : (q : Pair) → PairTyped q → pairFrom (q .pc) (q .timing) ≡ q
 pair-same q t = rw (mod-eq-of-lt (t .pc), mod-eq-of-lt (t .timing)) refl
@@ -154,21 +140,6 @@ bank-same b t =
 
 -- ---- what is read is a record of the code
 
-length-tabulate : {A : Type 0} (f : ℕ → A) (n : ℕ) → length (tabulate f n) ≡ n
-unfolding tabulate
-length-tabulate f zero = refl
-length-tabulate f (suc n) = length-append (tabulate f n) (f n ∷ []) ∙ rw (length-tabulate f n) (omega arith)
-
-getD-tabulate : {A : Type 0} (f : ℕ → A) (n k : ℕ) (d : A) → k < n → getD (tabulate f n) k d ≡ f k
-unfolding tabulate
-getD-tabulate f zero k d h = let z : ⊥ = omega arith in absurd z
-getD-tabulate f (suc n) k d h =
-    let within : k ≤ n = omega arith in
-    ⊎-elim (λ e. rw e (getD-at (tabulate f n) (f n) [] d n (length-tabulate f n)))
-    (λ below.
-    List·getD-append (tabulate f n) (f n ∷ []) d k (rw (length-tabulate f n) below) ∙ getD-tabulate f n k d below)
-    (eq-or-lt-of-le within)
-
 low32-lt : (x : ℕ) → low32 x < 2 ^ 32
 low32-lt x = mod-lt x (omega arith)
 
@@ -180,7 +151,7 @@ pair-typed p t = record { pc = low8-lt p; timing = low8-lt t }
 
 gate-typed : (b : List ℕ) (i : ℕ) → GateTyped (gateIn b i)
 unfolding gateIn
-gate-typed b i = record { entry = low32-lt (wordAt b i); pair = pair-typed (wordAt b (i + 1)) (wordAt b (i + 2)) }
+gate-typed b i = record { entry = low32-lt _; pair = pair-typed _ _ }
 
 kept-typed :
     (gate upcall : Bool) (back : ℕ) (q : Pair) (e : ℕ) → back < 2 ^ 32 → PairTyped q
@@ -192,46 +163,42 @@ kept-typed false false back q e h t = record { back = omega arith; pair = record
 call-typed : (b : List ℕ) (i : ℕ) → CallTyped (callIn b i)
 unfolding callIn callFrom
 call-typed b i =
-    kept-typed (eqb (wordAt b i) 1) (eqb (wordAt b i) 2) (low32 (wordAt b (i + 1)))
-    (pairFrom (wordAt b (i + 2)) (wordAt b (i + 3))) (wordAt b (i + 4)) (low32-lt (wordAt b (i + 1)))
-    (pair-typed (wordAt b (i + 2)) (wordAt b (i + 3)))
+    kept-typed (eqb (wordAt b (i + at.callKind)) at.gateCall) (eqb (wordAt b (i + at.callKind)) at.upcall) _ _ _ (low32-lt _)
+    (pair-typed _ _)
 
 fixed-typed : (b : List ℕ) → FixedTyped (fixedIn b)
 unfolding fixedIn
 fixed-typed b =
-    let g : ℕ → CallGate = λ (k : ℕ). gateIn b (4 + 3 * k) in
     record {
-      size = low32-lt (wordAt b 0);
-      limit = low32-lt (wordAt b 1);
-      errorpc = low32-lt (wordAt b 2);
-      count = low32-lt (wordAt b 3);
-      eight = length-tabulate g 8;
-      gates = λ k h. rw (getD-tabulate g 8 k noGate h) (gate-typed b (4 + 3 * k));
+      size = low32-lt _;
+      limit = low32-lt _;
+      errorpc = low32-lt _;
+      count = low32-lt _;
+      eight = length-tabulate _ 8;
+      gates = λ k h. rw (getD-tabulate _ 8 k noGate h) (gate-typed b _);
     }
 
 control-typed : (b : List ℕ) → ControlTyped (controlIn b)
 unfolding controlIn
 control-typed b =
     record {
-      pc = low32-lt (wordAt b 28);
-      pair = pair-typed (wordAt b 29) (wordAt b 30);
-      clock = low32-lt (wordAt b 31);
-      first = call-typed b 32;
-      second = call-typed b 37;
-      end = low8-lt (wordAt b 42);
-      why = low8-lt (wordAt b 43);
+      pc = low32-lt _;
+      pair = pair-typed _ _;
+      clock = low32-lt _;
+      first = call-typed b at.firstCall;
+      second = call-typed b at.secondCall;
+      end = low8-lt _;
+      why = low8-lt _;
     }
 
 bank-typed : (b : List ℕ) → BankTyped (registersIn b)
 unfolding registersIn
 bank-typed b =
-    let v : ℕ → ℕ = λ (k : ℕ). low32 (wordAt b (44 + k)) in
-    let l : ℕ → ℕ = λ (k : ℕ). low8 (wordAt b (60 + k)) in
     record {
-      sixteen = length-tabulate v 16;
-      values = λ k h. rw (getD-tabulate v 16 k 0 h) (low32-lt (wordAt b (44 + k)));
-      marks = length-tabulate l 16;
-      labels = λ k h. rw (getD-tabulate l 16 k 0 h) (low8-lt (wordAt b (60 + k)));
+      sixteen = length-tabulate _ 16;
+      values = λ k h. rw (getD-tabulate {A = ℕ} _ 16 k 0 h) (low32-lt _);
+      marks = length-tabulate _ 16;
+      labels = λ k h. rw (getD-tabulate {A = ℕ} _ 16 k 0 h) (low8-lt _);
     }
 
 typed-in : (b : List ℕ) → Typed (recordIn b)
@@ -248,15 +215,6 @@ reads-written r rest t =
     = read-cut r rest (t .fixed .eight) (t .registers .sixteen) (t .registers .marks)
     ∙ rw (fixed-same (r .fixed) (t .fixed), control-same (r .control) (t .control), bank-same (r .registers) (t .registers)) refl in
     rw (e, begins-itself (wordsOf r) rest) refl
-
-begun : (xs ys : List ℕ) → begins xs ys ≡ true → ys ≡ xs ++ drop (length xs) ys
-unfolding begins
-begun [] ys h = refl
-begun (x ∷ xs) [] h = cc
-begun (x ∷ xs) (y ∷ ys) h =
-    let e : (eqb x y ≡ true) × (begins xs ys ≡ true) = and-iff (eqb x y) (begins xs ys) .0 h in
-    let z : x ≡ y = eqb-true x y (e .0) in
-    rw (z, ← begun xs ys (e .1)) refl
 
 -- What is held in a buffer is what its words give, and they begin it.
 held :

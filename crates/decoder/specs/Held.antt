@@ -1,4 +1,4 @@
--- A machine record from words of 64 bits, each at the place where the crate encoder puts it (its specs/Layout.antt), and
+-- A machine record from words of 64 bits, each at its place in the buffer (specs/Places.antt of the crate encoder), and
 -- whether a buffer holds a record.
 -- Assumes nothing.
 use Prim.Native.Nat.{ℕ, zero, suc, _+_, _*_, _%_, _^_}
@@ -13,6 +13,7 @@ use Rattle.model.specs.declared.Control.{Control}
 use Rattle.model.specs.declared.Call.{Call}
 use Rattle.model.specs.declared.Call.the-variants.{Empty, Gate, Upcall}
 use Rattle.model.specs.Record.{Bank, Machine}
+use Rattle.encoder.specs.Places as at
 use Rattle.encoder.specs.Layout.{wordsOf}
 
 -- ---- a record from words
@@ -35,16 +36,21 @@ pairFrom p t = record { pc = low8 p; timing = low8 t }
 
 -- A call from its kind, return pc, pair and end tick. An unknown kind gives no call.
 unfoldable pub callFrom : ℕ → ℕ → Pair → ℕ → Call
-callFrom kind back q e = cond (eqb kind 1) (Gate back q) (cond (eqb kind 2) (Upcall back q e) Empty)
+callFrom kind back q e = cond (eqb kind at.gateCall) (Gate back q) (cond (eqb kind at.upcall) (Upcall back q e) Empty)
 
--- The call in the five words from i on.
+-- The call in the words from i on.
 unfoldable pub callIn : List ℕ → ℕ → Call
 callIn b i =
-    callFrom (wordAt b i) (low32 (wordAt b (i + 1))) (pairFrom (wordAt b (i + 2)) (wordAt b (i + 3))) (wordAt b (i + 4))
+    callFrom (wordAt b (i + at.callKind)) (low32 (wordAt b (i + at.callReturnPc)))
+    (pairFrom (wordAt b (i + at.callPcLabel)) (wordAt b (i + at.callTimingLabel))) (wordAt b (i + at.callEndTick))
 
--- The gate in the three words from i on.
+-- The gate in the words from i on.
 unfoldable pub gateIn : List ℕ → ℕ → CallGate
-gateIn b i = record { entry = low32 (wordAt b i); pair = pairFrom (wordAt b (i + 1)) (wordAt b (i + 2)) }
+gateIn b i =
+    record {
+      entry = low32 (wordAt b (i + at.gateEntry));
+      pair = pairFrom (wordAt b (i + at.gatePcLabel)) (wordAt b (i + at.gateTimingLabel));
+    }
 
 -- The list f 0, f 1, .. of n elements.
 unfoldable pub tabulate : {A : Type 0} → (ℕ → A) → ℕ → List A
@@ -55,32 +61,32 @@ tabulate f (suc n) = tabulate f n ++ (f n ∷ [])
 unfoldable pub fixedIn : List ℕ → Fixed
 fixedIn b =
     record {
-      size = low32 (wordAt b 0);
-      limit = low32 (wordAt b 1);
-      errorpc = low32 (wordAt b 2);
-      count = low32 (wordAt b 3);
-      gates = tabulate (λ (k : ℕ). gateIn b (4 + 3 * k)) 8;
+      size = low32 (wordAt b at.size);
+      limit = low32 (wordAt b at.limit);
+      errorpc = low32 (wordAt b at.errorPc);
+      count = low32 (wordAt b at.gateCount);
+      gates = tabulate (λ (k : ℕ). gateIn b (at.firstGate + at.gateSpan * k)) 8;
     }
 
 -- What a step changes besides registers and memory, from its words.
 unfoldable pub controlIn : List ℕ → Control
 controlIn b =
     record {
-      pc = low32 (wordAt b 28);
-      pair = pairFrom (wordAt b 29) (wordAt b 30);
-      clock = low32 (wordAt b 31);
-      first = callIn b 32;
-      second = callIn b 37;
-      end = low8 (wordAt b 42);
-      why = low8 (wordAt b 43);
+      pc = low32 (wordAt b at.pc);
+      pair = pairFrom (wordAt b at.pcLabel) (wordAt b at.timingLabel);
+      clock = low32 (wordAt b at.clock);
+      first = callIn b at.firstCall;
+      second = callIn b at.secondCall;
+      end = low8 (wordAt b at.end);
+      why = low8 (wordAt b at.why);
     }
 
 -- The registers, from their words.
 unfoldable pub registersIn : List ℕ → Bank
 registersIn b =
     record {
-      values = tabulate (λ (k : ℕ). low32 (wordAt b (44 + k))) 16;
-      labels = tabulate (λ (k : ℕ). low8 (wordAt b (60 + k))) 16;
+      values = tabulate (λ (k : ℕ). low32 (wordAt b (at.firstValue + k))) 16;
+      labels = tabulate (λ (k : ℕ). low8 (wordAt b (at.firstLabel + k))) 16;
     }
 
 -- The record that the words give if each is cut to what its field can hold.
@@ -101,7 +107,7 @@ pub data Holding : Type 0 where
   nothing : Holding
 
 -- The record that a buffer holds: its words stand at the buffer's start just as they would be written. So there is none
--- in a buffer shorter than 76 words, nor where a word is not in the range of its field, a kind is unknown, or a word
+-- in a buffer shorter than the span, nor where a word is not in the range of its field, a kind is unknown, or a word
 -- isn't 0 where a call of its kind keeps nothing.
 unfoldable pub machineIn : List ℕ → Holding
 machineIn b = cond (begins (wordsOf (recordIn b)) b) (holds (recordIn b)) nothing

@@ -1,4 +1,5 @@
 // A record from words: each word is cut to what its field can hold.
+use encoder::places;
 use machine::Machine;
 use model::Call;
 use model::CallGate;
@@ -7,6 +8,7 @@ use model::Fixed;
 use model::Pair;
 ghost use mathlib.Core.Path.{_≡_};
 ghost use Prim.Native.Nat.{_<_, _%_, _^_};
+ghost use Rattle.encoder.specs.Places.{span};
 ghost use Rattle.machine.specs.Answered.{recordOf};
 ghost use Rattle.decoder.specs.Held.{wordAt, pairFrom, callFrom, callIn, gateIn, fixedIn, controlIn, registersIn, recordIn};
 
@@ -45,33 +47,38 @@ fn pair_from(pc: u64, timing: u64) -> Pair
 fn call_from(kind: u64, back: u32, pair: Pair, tick: u64) -> Call
     ensures { λ r. ⌜ r ≡ callFrom kind back pair tick ⌝ }
 {
-    if kind == 1 {
+    if kind == places::GATE_CALL {
         return Call::Gate(back, pair);
     }
-    if kind == 2 {
+    if kind == places::UPCALL {
         return Call::Upcall(back, pair, tick);
     }
     Call::Empty
 }
 
-// The call in the five words from `at` on.
+// The call in the words from `at` on.
 fn call_in(buffer: &[u64], at: usize) -> Call
-    requires { ⌜ at < 76 ⌝ }
+    requires { ⌜ at < span ⌝ }
     ensures { λ r. ⌜ r ≡ callIn (now (buffer .entry)) at ⌝ }
 {
-    let back = low32(word(buffer, at + 1));
-    let pair = pair_from(word(buffer, at + 2), word(buffer, at + 3));
-    call_from(word(buffer, at), back, pair, word(buffer, at + 4))
+    let kind = word(buffer, at + places::CALL_KIND);
+    let back = low32(word(buffer, at + places::CALL_RETURN_PC));
+    let pc = word(buffer, at + places::CALL_PC_LABEL);
+    let timing = word(buffer, at + places::CALL_TIMING_LABEL);
+    let tick = word(buffer, at + places::CALL_END_TICK);
+    call_from(kind, back, pair_from(pc, timing), tick)
 }
 
-// The gate in the three words from `at` on.
+// The gate in the words from `at` on.
 fn gate_in(buffer: &[u64], at: usize) -> CallGate
-    requires { ⌜ at < 76 ⌝ }
+    requires { ⌜ at < span ⌝ }
     ensures { λ r. ⌜ r ≡ gateIn (now (buffer .entry)) at ⌝ }
 {
-    let pair = pair_from(word(buffer, at + 1), word(buffer, at + 2));
+    let pc = word(buffer, at + places::GATE_PC_LABEL);
+    let timing = word(buffer, at + places::GATE_TIMING_LABEL);
+    let pair = pair_from(pc, timing);
     CallGate {
-        entry: low32(word(buffer, at)),
+        entry: low32(word(buffer, at + places::GATE_ENTRY)),
         pair,
     }
 }
@@ -80,10 +87,10 @@ fn gate_in(buffer: &[u64], at: usize) -> CallGate
 fn gates_in(buffer: &[u64]) -> [CallGate; 8]
     ensures { λ r. ⌜ r ≡ fixedIn (now (buffer .entry)) .gates ⌝ }
 {
-    let mut gates = [gate_in(buffer, 4); 8];
+    let mut gates = [gate_in(buffer, places::FIRST_GATE); 8];
     let mut k = 0;
     while k < 8 {
-        gates[k] = gate_in(buffer, 4 + 3 * k);
+        gates[k] = gate_in(buffer, places::FIRST_GATE + places::GATE_SPAN * k);
         k += 1;
     }
     gates
@@ -95,10 +102,10 @@ fn fixed_in(buffer: &[u64]) -> Fixed
 {
     let gates = gates_in(buffer);
     Fixed {
-        size: low32(word(buffer, 0)),
-        limit: low32(word(buffer, 1)),
-        errorpc: low32(word(buffer, 2)),
-        count: low32(word(buffer, 3)),
+        size: low32(word(buffer, places::SIZE)),
+        limit: low32(word(buffer, places::LIMIT)),
+        errorpc: low32(word(buffer, places::ERROR_PC)),
+        count: low32(word(buffer, places::GATE_COUNT)),
         gates,
     }
 }
@@ -107,17 +114,20 @@ fn fixed_in(buffer: &[u64]) -> Fixed
 fn control_in(buffer: &[u64]) -> Control
     ensures { λ r. ⌜ r ≡ controlIn (now (buffer .entry)) ⌝ }
 {
-    let pair = pair_from(word(buffer, 29), word(buffer, 30));
-    let first = call_in(buffer, 32);
-    let second = call_in(buffer, 37);
+    let pair = pair_from(
+        word(buffer, places::PC_LABEL),
+        word(buffer, places::TIMING_LABEL),
+    );
+    let first = call_in(buffer, places::FIRST_CALL);
+    let second = call_in(buffer, places::SECOND_CALL);
     Control {
-        pc: low32(word(buffer, 28)),
+        pc: low32(word(buffer, places::PC)),
         pair,
-        clock: low32(word(buffer, 31)),
+        clock: low32(word(buffer, places::CLOCK)),
         first,
         second,
-        end: low8(word(buffer, 42)),
-        why: low8(word(buffer, 43)),
+        end: low8(word(buffer, places::END)),
+        why: low8(word(buffer, places::WHY)),
     }
 }
 
@@ -128,7 +138,7 @@ fn values_in(buffer: &[u64]) -> [u32; 16]
     let mut values = [0u32; 16];
     let mut k = 0;
     while k < 16 {
-        values[k] = low32(word(buffer, 44 + k));
+        values[k] = low32(word(buffer, places::FIRST_VALUE + k));
         k += 1;
     }
     values
@@ -141,7 +151,7 @@ fn labels_in(buffer: &[u64]) -> [u8; 16]
     let mut labels = [0u8; 16];
     let mut k = 0;
     while k < 16 {
-        labels[k] = low8(word(buffer, 60 + k));
+        labels[k] = low8(word(buffer, places::FIRST_LABEL + k));
         k += 1;
     }
     labels

@@ -6,8 +6,7 @@ use machine::Machine;
 use model::Pair;
 ghost use mathlib.Core.Path.{_≡_};
 ghost use Rattle.decoder.specs.Held.{begins};
-ghost use Rattle.decoder.specs.Reading.{readOf};
-ghost use Rattle.decoder.specs.Reading.{read as Reading·read};
+ghost use Rattle.decoder.specs.Reading.{readOf, read as Reading·read};
 
 mod decode;
 

@@ -1,12 +1,12 @@
--- Laws about lists for the loops: words put into a buffer from a place on.
+-- Laws about lists: words put into a buffer from a place on.
 -- Assumes nothing.
-use Prim.Native.Nat.{ℕ, zero, suc, _+_, _*_, _≤_, _<_, zero-le}
+use Prim.Native.Nat.{ℕ, suc, _+_, _*_, _≤_, _<_, zero-le}
 use native.Mathlib.Nat.{add-zero, add-suc, suc-add}
 use native.Mathlib.Numerals.{add-one}
 use native.Mathlib.Omega.{arith}
 use mathlib.Core.Path.{_≡_, refl, sym, ap, _∙_}
 use mathlib.Core.List.{List, [], _∷_, _++_}
-use lib.ListN.{length, take, drop, getD, set, length-append}
+use lib.ListN.{length, take, drop, getD, set, length-take}
 use lib.Seq.{sets, length-sets, sets-eq, take-suc, take-all}
 
 -- Words put right behind others.
@@ -21,59 +21,55 @@ sets-start b ws n e h =
     let m : 0 + length ws ≡ n = omega arith in
     sets-eq ws b 0 (omega arith) ∙ ap (λ (k : ℕ). ws ++ drop k b) m
 
--- The rows f 0, f 1, .. of n, one behind another.
-unfoldable pub rows : (ℕ → List ℕ) → ℕ → List ℕ
-rows f zero = []
-rows f (suc n) = rows f n ++ f n
+-- ---- the words of a list, put element by element
 
-length-rows : (f : ℕ → List ℕ) (w : ℕ) → ((k : ℕ) → length (f k) ≡ w) → (n : ℕ) → length (rows f n) ≡ w * n
-unfolding rows
-length-rows f w e zero = omega arith
-length-rows f w e (suc n) = length-append (rows f n) (f n) ∙ rw (length-rows f w e n, e n) (omega arith)
+module _ {A : Type 0} where
+  -- Each element has w words, one element's behind another's.
+  pub record Rows (w : ℕ) (words : List A → List ℕ) : Type 0 where
+    pub none : words [] ≡ []
+    pub join : (xs ys : List A) → words (xs ++ ys) ≡ words xs ++ words ys
+    pub span : (xs : List A) → length (words xs) ≡ w * length xs
 
--- The first k rows, each of w words, have been put from a place on.
-pub record Put (f : ℕ → List ℕ) (w n at : ℕ) (before after : List ℕ) (k : ℕ) : Type 0 where
-  pub bound : k ≤ n
-  pub words : after ≡ sets before at (rows f k)
+  -- The words of the first k elements have been put from a place on.
+  pub record Put (words : List A → List ℕ) (at : ℕ) (before : List ℕ) (xs : List A) (after : List ℕ) (k : ℕ) : Type 0 where
+    pub bound : k ≤ length xs
+    pub front : after ≡ sets before at (words (take k xs))
 
-pub put-none : (f : ℕ → List ℕ) (w n at : ℕ) (b : List ℕ) → Put f w n at b b 0
-unfolding rows
-put-none f w n at b = record { bound = zero-le; words = refl }
+  pub put-none :
+      {w : ℕ} {words : List A → List ℕ} (at : ℕ) (b : List ℕ) (xs : List A) → Rows w words → Put words at b xs b 0
+  put-none at b xs rows = record { bound = zero-le; front = rw (rows .none) refl }
 
-pub put-more :
-    {f : ℕ → List ℕ} {w n at : ℕ} {before after : List ℕ} {k i : ℕ} {next : List ℕ} → Put f w n at before after k → k < n
-    → ((j : ℕ) → length (f j) ≡ w) → i ≡ at + w * k → next ≡ sets after i (f k) → Put f w n at before next (k + 1)
-unfolding rows
-put-more {f} {w} {n} {at} {before} {after} {k} {i} {next} h below each e s =
-    record {
-      bound = omega arith;
-      words =
-          rw (add-one k)
-          (s ∙ rw (h .words) (sets-then before at (rows f k) (f k) (e ∙ ap (λ (x : ℕ). at + x) (sym (length-rows f w each k)))));
-    }
+  pub put-more :
+      {w : ℕ} {words : List A → List ℕ} {at : ℕ} {before after next : List ℕ} {xs : List A} {k i : ℕ} (d : A) → Rows w words
+      → Put words at before xs after k → k < length xs → i ≡ at + w * k → next ≡ sets after i (words (getD xs k d ∷ []))
+      → Put words at before xs next (k + 1)
+  put-more {w} {words} {at} {before} {after} {next} {xs} {k} {i} d rows h below e s =
+      let long : length (take k xs) ≡ k = omega (arith, length-take k xs) in
+      record {
+        bound = omega arith;
+        front =
+            rw
+            (add-one k, take-suc xs k d below, rows .join (take k xs) (getD xs k d ∷ []))
+            (s ∙ rw (h .front) (sets-then before at (words (take k xs)) (words (getD xs k d ∷ [])) (rw (rows .span (take k xs), long) e)));
+      }
 
-pub put-all :
-    {f : ℕ → List ℕ} {w n at : ℕ} {before after : List ℕ} {k : ℕ} → Put f w n at before after k → n ≤ k
-    → after ≡ sets before at (rows f n)
-put-all {f} {w} {n} {at} {before} {after} {k} h past =
-    let e : k ≡ n = omega (arith, h .bound) in
-    rw (← e) (h .words)
+  pub put-all :
+      {words : List A → List ℕ} {at : ℕ} {before after : List ℕ} {xs : List A} {k : ℕ} → Put words at before xs after k
+      → length xs ≤ k → after ≡ sets before at (words xs)
+  put-all {words} {at} {before} {after} {xs} {k} h past =
+      h .front ∙ ap (λ (ys : List A). sets before at (words ys)) (take-all k xs past)
 
-pub put-length :
-    {f : ℕ → List ℕ} {w n at : ℕ} {before after : List ℕ} {k : ℕ} → Put f w n at before after k → length after ≡ length before
-put-length {f} {w} {n} {at} {before} {after} {k} h = ap length (h .words) ∙ length-sets before at (rows f k)
+  pub put-length :
+      {words : List A → List ℕ} {at : ℕ} {before after : List ℕ} {xs : List A} {k : ℕ} → Put words at before xs after k
+      → length after ≡ length before
+  put-length {words} {at} {before} {after} {xs} {k} h = ap length (h .front) ∙ length-sets before at (words (take k xs))
 
--- Rows of one word each are the list itself.
-pub rows-of-one : (xs : List ℕ) (n : ℕ) → n ≤ length xs → rows (λ (k : ℕ). getD xs k 0 ∷ []) n ≡ take n xs
-unfolding rows
-rows-of-one xs zero h = refl
-rows-of-one xs (suc n) h = rw (rows-of-one xs n (omega arith)) (sym (take-suc xs n 0 h))
+-- Numbers are their own words.
+abbrev pub itself : List ℕ → List ℕ
+itself xs = xs
 
-pub put-list :
-    {n at : ℕ} {before after : List ℕ} {k : ℕ} (xs : List ℕ) → Put (λ (j : ℕ). getD xs j 0 ∷ []) 1 n at before after k → n ≤ k
-    → length xs ≡ n → after ≡ sets before at xs
-put-list {n} {at} {before} xs h past e =
-    put-all h past ∙ ap (λ (ws : List ℕ). sets before at ws) (rows-of-one xs n (omega arith) ∙ take-all n xs (omega arith))
+pub ones : Rows 1 itself
+ones = record { none = refl; join = λ xs ys. refl; span = λ xs. omega arith }
 
 -- Places one after another, as the code and as `sets` count them.
 pub two : (n : ℕ) → n + 2 ≡ suc (suc n)

@@ -1,45 +1,41 @@
--- A machine record as words of 64 bits, one number a word:
---
---    0  size, limit, error pc, gate count
---    4  eight gates: entry, pc label, timing label
---   28  pc, pc label, timing label, clock
---   32  the first call: kind (0 empty, 1 gate call, 2 upcall), return pc, pc label, timing label, end tick
---   37  the second call: the same five
---   42  end, why
---   44  sixteen register values
---   60  sixteen register labels
---
+-- A machine record as words of 64 bits, one number a word, in the order of their places: Places.antt.
 -- `recordIn` in the crate decoder reads these places. Its proofs/RoundTrip.antt has the two laws: what is written is read
 -- again, and what is read was written so.
 -- Assumes nothing.
 use Prim.Native.Nat.{ℕ}
 use mathlib.Core.List.{List, [], _∷_, _++_}
 use lib.ListN.{drop}
+use Rattle.model.specs.declared.Pair.{Pair}
 use Rattle.model.specs.declared.CallGate.{CallGate}
 use Rattle.model.specs.declared.Fixed.{Fixed}
 use Rattle.model.specs.declared.Control.{Control}
 use Rattle.model.specs.declared.Call.{Call}
 use Rattle.model.specs.declared.Call.the-variants.{Empty, Gate, Upcall}
 use Rattle.model.specs.Record.{Machine, returnOf, pairOf, endTickOf}
+use Rattle.encoder.specs.Places as at
 
--- How many words a record takes.
-abbrev pub span : ℕ
-span = 76
-
--- The kind of a call: 0 empty, 1 gate call, 2 upcall.
+-- The kind of a call.
 abbrev pub kindOf : Call → ℕ
-kindOf Empty = 0
-kindOf (Gate k q) = 1
-kindOf (Upcall k q e) = 2
+kindOf Empty = at.empty
+kindOf (Gate k q) = at.gateCall
+kindOf (Upcall k q e) = at.upcall
+
+-- The five words of a call of this kind, with what it keeps.
+abbrev pub keptWords : ℕ → ℕ → Pair → ℕ → List ℕ
+keptWords kind back q e = kind ∷ back ∷ q .pc ∷ q .timing ∷ e ∷ []
 
 -- A call's five words: zeros where a call of its kind keeps nothing.
 abbrev pub callWords : Call → List ℕ
-callWords k = kindOf k ∷ returnOf k ∷ pairOf k .pc ∷ pairOf k .timing ∷ endTickOf k ∷ []
+callWords k = keptWords (kindOf k) (returnOf k) (pairOf k) (endTickOf k)
 
--- The gates' words, three for each.
+-- A gate's three words.
+abbrev pub gateWords : CallGate → List ℕ
+gateWords g = g .entry ∷ g .pair .pc ∷ g .pair .timing ∷ []
+
+-- The gates' words, one gate behind another.
 unfoldable pub gatesWords : List CallGate → List ℕ
 gatesWords [] = []
-gatesWords (g ∷ gs) = g .entry ∷ g .pair .pc ∷ g .pair .timing ∷ gatesWords gs
+gatesWords (g ∷ gs) = gateWords g ++ gatesWords gs
 
 -- The words of what no step changes.
 abbrev pub fixedWords : Fixed → List ℕ
@@ -57,4 +53,4 @@ wordsOf r = fixedWords (r .fixed) ++ (controlWords (r .control) ++ (r .registers
 
 -- The buffer with a record's words at its start.
 abbrev pub holding : Machine → List ℕ → List ℕ
-holding r b = wordsOf r ++ drop span b
+holding r b = wordsOf r ++ drop at.span b

@@ -6,14 +6,15 @@ use mathlib.Core.List.{List}
 use lib.Dec.{leb}
 use lib.ListN.{length}
 use Rattle.model.specs.Record.{Machine}
-use Rattle.encoder.specs.Layout.{holding, span}
+use Rattle.encoder.specs.Places.{span}
+use Rattle.encoder.specs.Layout.{holding}
 
 -- Whether the record was written, and the buffer at exit.
 pub record Written : Type 0 where
   pub done : Bool
   pub buffer : List ℕ
 
--- What write answers: the record at the buffer's start; nothing is written into a buffer shorter than 76 words.
+-- What write answers: the record at the buffer's start; nothing is written into a buffer shorter than the span.
 unfoldable pub write : Machine → List ℕ → Written
 write r b =
     cond (leb span (length b)) (record { done = true; buffer = holding r b }) (record { done = false; buffer = b })

@@ -1,4 +1,5 @@
 // A record's words, put into a buffer: what lies behind the buffer's end is not written.
+use crate::places;
 use machine::Machine;
 use model::Call;
 use model::CallGate;
@@ -9,9 +10,9 @@ ghost use mathlib.Core.Path.{_≡_};
 ghost use Prim.Native.Nat.{_<_};
 ghost use lib.ListN.{length, set};
 ghost use lib.Seq.{sets};
-ghost use mathlib.Core.List.{_∷_, []};
 ghost use Rattle.machine.specs.Answered.{recordOf};
-ghost use Rattle.encoder.specs.Layout.{callWords, gatesWords, fixedWords, controlWords, wordsOf, span};
+ghost use Rattle.encoder.specs.Layout.{keptWords, callWords, gateWords, gatesWords, fixedWords, controlWords, wordsOf};
+ghost use Rattle.encoder.specs.Places.{span, size, firstGate, pc, firstValue, firstLabel};
 
 // Puts one word.
 fn put(x: u64, buffer: &mut [u64], at: usize)
@@ -38,101 +39,101 @@ fn put8(x: u8, buffer: &mut [u64], at: usize)
 
 // Puts the five words of a call.
 fn put_call(call: Call, buffer: &mut [u64], at: usize)
-    requires { ⌜ at < 76 ⌝ }
+    requires { ⌜ at < span ⌝ }
     ensures { λ r. ⌜ now (buffer .exit) ≡ sets (now (buffer .entry)) at (callWords call) ⌝ }
 {
     let none = Pair { pc: 0, timing: 0 };
     match call {
-        Call::Empty => put_kept(0, 0, none, 0, buffer, at),
-        Call::Gate(back, pair) => put_kept(1, back, pair, 0, buffer, at),
-        Call::Upcall(back, pair, tick) => put_kept(2, back, pair, tick, buffer, at),
+        Call::Empty => put_kept(places::EMPTY, 0, none, 0, buffer, at),
+        Call::Gate(back, pair) => put_kept(places::GATE_CALL, back, pair, 0, buffer, at),
+        Call::Upcall(back, pair, tick) => put_kept(places::UPCALL, back, pair, tick, buffer, at),
     }
 }
 
 // Puts a call's kind and what it keeps.
 fn put_kept(kind: u64, back: u32, pair: Pair, tick: u64, buffer: &mut [u64], at: usize)
-    requires { ⌜ at < 76 ⌝ }
-    ensures { λ r. ⌜ now (buffer .exit) ≡ sets (now (buffer .entry)) at (kind ∷ back ∷ pair .pc ∷ pair .timing ∷ tick ∷ []) ⌝ }
+    requires { ⌜ at < span ⌝ }
+    ensures { λ r. ⌜ now (buffer .exit) ≡ sets (now (buffer .entry)) at (keptWords kind back pair tick) ⌝ }
 {
-    put(kind, buffer, at);
-    put32(back, buffer, at + 1);
-    put8(pair.pc, buffer, at + 2);
-    put8(pair.timing, buffer, at + 3);
-    put(tick, buffer, at + 4);
+    put(kind, buffer, at + places::CALL_KIND);
+    put32(back, buffer, at + places::CALL_RETURN_PC);
+    put8(pair.pc, buffer, at + places::CALL_PC_LABEL);
+    put8(pair.timing, buffer, at + places::CALL_TIMING_LABEL);
+    put(tick, buffer, at + places::CALL_END_TICK);
 }
 
 // Puts the three words of a gate.
 fn put_gate(gate: CallGate, buffer: &mut [u64], at: usize)
-    requires { ⌜ at < 76 ⌝ }
-    ensures { λ r. ⌜ now (buffer .exit) ≡ sets (now (buffer .entry)) at (gate .entry ∷ gate .pair .pc ∷ gate .pair .timing ∷ []) ⌝ }
+    requires { ⌜ at < span ⌝ }
+    ensures { λ r. ⌜ now (buffer .exit) ≡ sets (now (buffer .entry)) at (gateWords gate) ⌝ }
 {
-    put32(gate.entry, buffer, at);
-    put8(gate.pair.pc, buffer, at + 1);
-    put8(gate.pair.timing, buffer, at + 2);
+    put32(gate.entry, buffer, at + places::GATE_ENTRY);
+    put8(gate.pair.pc, buffer, at + places::GATE_PC_LABEL);
+    put8(gate.pair.timing, buffer, at + places::GATE_TIMING_LABEL);
 }
 
 // Puts the eight gates.
 fn put_gates(gates: [CallGate; 8], buffer: &mut [u64])
-    ensures { λ r. ⌜ (now (buffer .exit) ≡ sets (now (buffer .entry)) 4 (gatesWords gates)) × (length gates ≡ 8) ⌝ }
+    ensures { λ r. ⌜ (now (buffer .exit) ≡ sets (now (buffer .entry)) firstGate (gatesWords gates)) × (length gates ≡ 8) ⌝ }
 {
     let mut k = 0;
     while k < 8 {
-        put_gate(gates[k], buffer, 4 + 3 * k);
+        put_gate(gates[k], buffer, places::FIRST_GATE + places::GATE_SPAN * k);
         k += 1;
     }
 }
 
 // Puts what no step changes. There are eight gates.
 fn put_fixed(fixed: Fixed, buffer: &mut [u64])
-    ensures { λ r. ⌜ (now (buffer .exit) ≡ sets (now (buffer .entry)) 0 (fixedWords fixed)) × (length (fixed .gates) ≡ 8) ⌝ }
+    ensures { λ r. ⌜ (now (buffer .exit) ≡ sets (now (buffer .entry)) size (fixedWords fixed)) × (length (fixed .gates) ≡ 8) ⌝ }
 {
-    put32(fixed.size, buffer, 0);
-    put32(fixed.limit, buffer, 1);
-    put32(fixed.errorpc, buffer, 2);
-    put32(fixed.count, buffer, 3);
+    put32(fixed.size, buffer, places::SIZE);
+    put32(fixed.limit, buffer, places::LIMIT);
+    put32(fixed.errorpc, buffer, places::ERROR_PC);
+    put32(fixed.count, buffer, places::GATE_COUNT);
     let gates = fixed.gates;
     put_gates(gates, buffer);
 }
 
 // Puts what a step changes besides registers and memory.
 fn put_control(control: Control, buffer: &mut [u64])
-    ensures { λ r. ⌜ now (buffer .exit) ≡ sets (now (buffer .entry)) 28 (controlWords control) ⌝ }
+    ensures { λ r. ⌜ now (buffer .exit) ≡ sets (now (buffer .entry)) pc (controlWords control) ⌝ }
 {
     let first = control.first;
     let second = control.second;
-    put32(control.pc, buffer, 28);
-    put8(control.pair.pc, buffer, 29);
-    put8(control.pair.timing, buffer, 30);
-    put32(control.clock, buffer, 31);
-    put_call(first, buffer, 32);
-    put_call(second, buffer, 37);
-    put8(control.end, buffer, 42);
-    put8(control.why, buffer, 43);
+    put32(control.pc, buffer, places::PC);
+    put8(control.pair.pc, buffer, places::PC_LABEL);
+    put8(control.pair.timing, buffer, places::TIMING_LABEL);
+    put32(control.clock, buffer, places::CLOCK);
+    put_call(first, buffer, places::FIRST_CALL);
+    put_call(second, buffer, places::SECOND_CALL);
+    put8(control.end, buffer, places::END);
+    put8(control.why, buffer, places::WHY);
 }
 
 // Puts the sixteen register values.
 fn put_values(values: [u32; 16], buffer: &mut [u64])
-    ensures { λ r. ⌜ now (buffer .exit) ≡ sets (now (buffer .entry)) 44 values ⌝ }
+    ensures { λ r. ⌜ now (buffer .exit) ≡ sets (now (buffer .entry)) firstValue values ⌝ }
 {
     let mut k = 0;
     while k < 16 {
-        put32(values[k], buffer, 44 + k);
+        put32(values[k], buffer, places::FIRST_VALUE + k);
         k += 1;
     }
 }
 
 // Puts the sixteen register labels.
 fn put_labels(labels: [u8; 16], buffer: &mut [u64])
-    ensures { λ r. ⌜ now (buffer .exit) ≡ sets (now (buffer .entry)) 60 labels ⌝ }
+    ensures { λ r. ⌜ now (buffer .exit) ≡ sets (now (buffer .entry)) firstLabel labels ⌝ }
 {
     let mut k = 0;
     while k < 16 {
-        put8(labels[k], buffer, 60 + k);
+        put8(labels[k], buffer, places::FIRST_LABEL + k);
         k += 1;
     }
 }
 
-// Puts a record's words, 76 of them.
+// Puts a record's words, as many as the span says.
 pub fn put_machine(machine: Machine, buffer: &mut [u64])
     ensures { λ r. ⌜ (now (buffer .exit) ≡ sets (now (buffer .entry)) 0 (wordsOf (recordOf machine))) × (length (wordsOf (recordOf machine)) ≡ span) ⌝ }
 {

@@ -15,7 +15,7 @@ use Rattle.model.specs.Record.{Bank, Machine}
 use Rattle.model.specs.Answer.{Answer, stepAnswer, runAnswer}
 use Rattle.model.specs.Load.{Loading, load}
 use Rattle.model.specs.Listing.{Printing, print}
-use Rattle.encoder.specs.Layout.{span}
+use Rattle.encoder.specs.Places.{span}
 use Rattle.encoder.specs.Writing.{write}
 use Rattle.decoder.specs.Held.{Holding, holds, nothing, machineIn}
 

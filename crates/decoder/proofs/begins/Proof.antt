@@ -3,6 +3,7 @@
 use Prim.Native.Nat.{_≤_, _-_}
 use native.Mathlib.Omega.{arith}
 use mathlib.Core.Path.{_≡_, refl, sym, _∙_}
+use mathlib.Core.Bool.{Bool}
 use lib.ListN.{length, drop}
 use Rattle.decoder.specs.Held as held
 use Rattle.decoder.proofs.Lists.{begins-differ, begins-more, begins-short, begins-end}
@@ -30,25 +31,20 @@ mul-if2-2 c = omega arith
 shared-slice-read-if2-2 : tie.Need-shared-slice-read-if2-2 Inv-loop μ-loop
 shared-slice-read-if2-2 c = omega arith
 
+-- What the rest of the two lists decides at the loop's head is the answer.
+decided :
+    (head : tie.At-loop Inv-loop μ-loop) {same : Bool}
+    → held.begins (drop (head .loop .k) (head .before .args .words .now)) (drop (head .loop .k) (head .before .args .buffer .now)) ≡ same
+    → same ≡ held.begins (head .before .args .words .now) (head .before .args .buffer .now)
+decided head e = sym (head .loop .inv .1 ∙ e)
+
 returns : tie.Need-returns Inv-loop μ-loop
 returns c =
     let within = c .before .before .before in
-    let turn = within .before in
-    let head = turn .before in
-    let start = head .before in
-    sym
-    (head .loop .inv .1
-    ∙ begins-differ (start .args .words .now) (start .args .buffer .now) (head .loop .k) (turn .loop-test .taken)
-    (within .if1 .taken) (c .if2 .taken))
+    decided (within .before .before) (begins-differ _ _ _ (within .before .loop-test .taken) (within .if1 .taken) (c .if2 .taken))
 
 returns-2 : tie.Need-returns-2 Inv-loop μ-loop
-returns-2 c =
-    let head = c .before .before in
-    let start = head .before in
-    sym
-    (head .loop .inv .1
-    ∙ begins-short (start .args .words .now) (start .args .buffer .now) (head .loop .k) (c .before .loop-test .taken)
-    (c .if1 .left))
+returns-2 c = decided (c .before .before) (begins-short _ _ _ (c .before .loop-test .taken) (c .if1 .left))
 
 add-k : tie.Need-add-k Inv-loop μ-loop
 add-k c = omega arith
@@ -59,20 +55,13 @@ loop-less c = omega arith
 loop-again : tie.Need-loop-again Inv-loop μ-loop
 loop-again c =
     let within = c .before .before .before in
-    let turn = within .before in
-    let head = turn .before in
-    let start = head .before in (
+    let turn = within .before in (
       omega arith,
-      head .loop .inv .1
-          ∙ begins-more (start .args .words .now) (start .args .buffer .now) (head .loop .k) (turn .loop-test .taken)
-          (within .if1 .taken) (c .if2 .left),
+      turn .before .loop .inv .1 ∙ begins-more _ _ _ (turn .loop-test .taken) (within .if1 .taken) (c .if2 .left),
     )
 
 returns-3 : tie.Need-returns-3 Inv-loop μ-loop
-returns-3 c =
-    let head = c .before in
-    let start = head .before in
-    sym (head .loop .inv .1 ∙ begins-end (start .args .words .now) (start .args .buffer .now) (head .loop .k) (c .loop-test .left))
+returns-3 c = decided (c .before) (begins-end _ _ _ (c .loop-test .left))
 
 pub begins-spec : {M : Type 1} → statement M
 begins-spec =

@@ -1,9 +1,10 @@
--- `encoder::write` meets its contract. A buffer of 76 words or more takes all of the record's words.
+-- `encoder::write` meets its contract. A buffer as long as the span takes all of the record's words.
 -- Assumes nothing.
 use mathlib.Core.Path.{refl, _∙_}
 use borrow.Author.Needs.{needs}
 use borrow.Author.Tests.{lt-leb, le-leb}
 use Rattle.machine.specs.Answered.{recordOf}
+use Rattle.encoder.specs.Places.{span}
 use Rattle.encoder.specs.Layout.{wordsOf}
 use Rattle.encoder.specs.Writing as writing
 use Rattle.encoder.proofs.Lists.{sets-start}
@@ -12,7 +13,7 @@ use Rattle.encoder.proofs.write.Tie as tie
 
 returns : tie.Need-returns
 unfolding writing.write
-returns c = rw (lt-leb 76 _ (c .if1 .taken)) refl
+returns c = rw (lt-leb span _ (c .if1 .taken)) refl
 
 put-machine-requires : tie.Need-put-machine-requires
 put-machine-requires c κs = search needs
@@ -28,7 +29,7 @@ returns-2 c =
     let start = long .before .before in
     let words = wordsOf (recordOf (start .args .machine)) in
     rw
-    (le-leb 76 _ (long .if1 .left), put .put-machine .ensures .0 ∙ sets-start (start .args .buffer .now) words 76 (put .put-machine .ensures .1) (long .if1 .left))
+    (le-leb span _ (long .if1 .left), put .put-machine .ensures .0 ∙ sets-start (start .args .buffer .now) words span (put .put-machine .ensures .1) (long .if1 .left))
     refl
 
 pub write-spec : {M : Type 1} → statement M

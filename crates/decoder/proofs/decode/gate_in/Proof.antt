@@ -21,6 +21,9 @@ word-requires-2 c κs = search needs
 pair-from-requires : tie.Need-pair-from-requires
 pair-from-requires c κs = search needs
 
+add-word-3 : tie.Need-add-word-3
+add-word-3 c = search needs
+
 word-requires-3 : tie.Need-word-requires-3
 word-requires-3 c κs = search needs
 
@@ -41,6 +44,7 @@ gate-in-spec =
     add-word-2
     word-requires-2
     pair-from-requires
+    add-word-3
     word-requires-3
     low32-requires
     returns)

@@ -4,13 +4,14 @@ use Prim.Native.Nat.{ℕ, _-_, _+_, _*_}
 use native.Mathlib.Omega.{arith}
 use mathlib.Core.Path.{refl}
 use borrow.Author.Needs.{needs}
+use Rattle.encoder.specs.Places.{firstGate, gateSpan}
 use Rattle.decoder.specs.Held.{fixedIn, gateIn}
 use Rattle.decoder.proofs.Lists.{Filled, filled-none, filled-more, filled-all}
 use Rattle.decoder.proofs.decode.gates_in.Statement.{statement}
 use Rattle.decoder.proofs.decode.gates_in.Tie as tie
 
 abbrev Inv-loop : tie.InvT-loop
-Inv-loop buffer gates₀ k₀ gates k = Filled (λ (j : ℕ). gateIn buffer (4 + 3 * j)) 8 gates k
+Inv-loop buffer gates₀ k₀ gates k = Filled (λ (j : ℕ). gateIn buffer (firstGate + gateSpan * j)) 8 gates k
 
 abbrev μ-loop : tie.MeasureT-loop
 μ-loop buffer gates₀ k₀ gates k = 8 - k

@@ -1,9 +1,21 @@
 -- `encoder::encode::put_call` meets its contract. Each arm knows the call.
 -- Assumes nothing.
+use Prim.Native.Nat.{ℕ}
+use mathlib.Core.Path.{_≡_}
+use mathlib.Core.List.{List}
+use lib.Seq.{sets}
 use borrow.Author.Needs.{needs}
-use Rattle.encoder.proofs.Laws.{put-known}
+use Rattle.model.specs.declared.Call.{Call}
+use Rattle.encoder.specs.Layout.{callWords}
 use Rattle.encoder.proofs.encode.put_call.Statement.{statement}
 use Rattle.encoder.proofs.encode.put_call.Tie as tie
+
+-- The words of a call that is known.
+known :
+    (start : tie.Start) {k : Call} {after : List ℕ} → start .args .call ≡ k
+    → after ≡ sets (start .args .buffer .now) (start .args .at) (callWords k)
+    → after ≡ sets (start .args .buffer .now) (start .args .at) (callWords (start .args .call))
+known start e s = rw e s
 
 enum-told : tie.Need-enum-told
 enum-told c = search needs
@@ -29,8 +41,7 @@ same-length c = search needs
 returns : tie.Need-returns
 returns c =
     let told = c .before .before .before .before in
-    let start = told .before .before .before in
-    put-known (start .args .buffer .now) (start .args .at) (told .enum-told .given .1) (c .before .before .put-kept .ensures)
+    known (told .before .before .before) (told .enum-told .given .1) (c .before .before .put-kept .ensures)
 
 same-length-2 : tie.Need-same-length-2
 same-length-2 c = search needs
@@ -38,8 +49,7 @@ same-length-2 c = search needs
 returns-2 : tie.Need-returns-2
 returns-2 c =
     let told = c .before .before .before .before .before in
-    let start = told .before .before .before in
-    put-known (start .args .buffer .now) (start .args .at) (told .call .given .1) (c .before .before .put-kept2 .ensures)
+    known (told .before .before .before) (told .call .given .1) (c .before .before .put-kept2 .ensures)
 
 same-length-3 : tie.Need-same-length-3
 same-length-3 c = search needs
@@ -47,8 +57,7 @@ same-length-3 c = search needs
 returns-3 : tie.Need-returns-3
 returns-3 c =
     let told = c .before .before .before .before .before in
-    let start = told .before .before .before in
-    put-known (start .args .buffer .now) (start .args .at) (told .call2 .given .1) (c .before .before .put-kept3 .ensures)
+    known (told .before .before .before) (told .call2 .given .1) (c .before .before .put-kept3 .ensures)
 
 pub put-call-spec : {M : Type 1} → statement M
 put-call-spec =

@@ -1,11 +1,15 @@
 -- `encoder::encode::put_gate` meets its contract. The places are counted by one.
 -- Assumes nothing.
+use native.Mathlib.Nat.{add-zero}
 use native.Mathlib.Numerals.{add-one}
 use mathlib.Core.Path.{refl}
 use borrow.Author.Needs.{needs}
 use Rattle.encoder.proofs.Lists.{two}
 use Rattle.encoder.proofs.encode.put_gate.Statement.{statement}
 use Rattle.encoder.proofs.encode.put_gate.Tie as tie
+
+add-put32 : tie.Need-add-put32
+add-put32 c = search needs
 
 put32-requires : tie.Need-put32-requires
 put32-requires c κs = search needs
@@ -31,9 +35,9 @@ returns c =
     let second = third .before .before .before .before in
     let first = second .before .before .before .before in
     let at = first .before .before .before .args .at in
-    rw (third .put82 .ensures, second .put8 .ensures, first .put32 .ensures, add-one at, two at) refl
+    rw (third .put82 .ensures, second .put8 .ensures, first .put32 .ensures, add-zero at, add-one at, two at) refl
 
 pub put-gate-spec : {M : Type 1} → statement M
 put-gate-spec =
     tie.close
-    (tie.spec put32-requires add-put8 put8-requires add-put8-2 put8-requires-2 same-length returns)
+    (tie.spec add-put32 put32-requires add-put8 put8-requires add-put8-2 put8-requires-2 same-length returns)

@@ -1,24 +1,30 @@
 -- `encoder::encode::put_gates` meets its contract. The loop's invariant: the first k gates are put.
 -- Assumes nothing.
-use Prim.Native.Nat.{ℕ, _-_}
+use Prim.Native.Nat.{_-_}
 use native.Mathlib.Omega.{arith}
-use mathlib.Core.Path.{refl}
-use lib.ListN.{getD}
+use mathlib.Core.Path.{_≡_, refl}
+use lib.ListN.{length}
 use borrow.Author.Needs.{needs}
 use Rattle.model.specs.Ops.{noGate}
-use Rattle.encoder.proofs.Laws.{gateWords, put-gates}
-use Rattle.encoder.proofs.Lists.{Put, put-none, put-more, put-length}
+use Rattle.encoder.specs.Places.{firstGate}
+use Rattle.encoder.specs.Layout.{gatesWords}
+use Rattle.encoder.proofs.Laws.{gate-rows}
+use Rattle.encoder.proofs.Lists.{Put, put-none, put-more, put-all, put-length}
 use Rattle.encoder.proofs.encode.put_gates.Statement.{statement}
 use Rattle.encoder.proofs.encode.put_gates.Tie as tie
 
 abbrev Inv-loop : tie.InvT-loop
-Inv-loop buffer₀ gates k₀ buffer k = Put (λ (j : ℕ). gateWords (getD gates j noGate)) 3 8 4 buffer₀ buffer k
+Inv-loop buffer₀ gates k₀ buffer k = Put gatesWords firstGate buffer₀ gates buffer k
 
 abbrev μ-loop : tie.MeasureT-loop
 μ-loop buffer₀ gates k₀ buffer k = 8 - k
 
+-- As the argument's type tells.
+eight : (c : tie.Start Inv-loop μ-loop) → length (c .args .t1) ≡ 8
+eight c = search needs
+
 loop-holds : tie.Need-loop-holds Inv-loop μ-loop
-loop-holds c = put-none _ 3 8 4 _
+loop-holds c = put-none firstGate _ _ gate-rows
 
 mul-put-gate : tie.Need-mul-put-gate Inv-loop μ-loop
 mul-put-gate c = omega arith
@@ -42,13 +48,19 @@ loop-less : tie.Need-loop-less Inv-loop μ-loop
 loop-less c = omega arith
 
 loop-again : tie.Need-loop-again Inv-loop μ-loop
-loop-again c = put-more (c .before .before .before .before .before .before .loop .inv) (c .before .before .before .before .before .loop-test .taken) (λ j. refl) refl (c .before .before .put-gate .ensures)
+unfolding gatesWords
+loop-again c =
+    let head = c .before .before .before .before .before .before in
+    put-more noGate gate-rows (head .loop .inv) (omega (arith, eight (head .before .before))) refl
+    (c .before .before .put-gate .ensures)
 
 same-length : tie.Need-same-length Inv-loop μ-loop
 same-length c = put-length (c .before .loop .inv)
 
 returns : tie.Need-returns Inv-loop μ-loop
-returns c = (put-gates (c .before .before .before .args .t1) (c .before .loop .inv) (c .loop-test .left) (search needs), search needs)
+returns c =
+    let all = eight (c .before .before .before) in
+    (put-all (c .before .loop .inv) (omega arith), all)
 
 pub put-gates-spec : {M : Type 1} → statement M
 put-gates-spec =

@@ -1,11 +1,15 @@
 -- `encoder::encode::put_kept` meets its contract. The places are counted by one.
 -- Assumes nothing.
+use native.Mathlib.Nat.{add-zero}
 use native.Mathlib.Numerals.{add-one}
 use mathlib.Core.Path.{refl}
 use borrow.Author.Needs.{needs}
 use Rattle.encoder.proofs.Lists.{two, three, four}
 use Rattle.encoder.proofs.encode.put_kept.Statement.{statement}
 use Rattle.encoder.proofs.encode.put_kept.Tie as tie
+
+add-put : tie.Need-add-put
+add-put c = search needs
 
 put-requires : tie.Need-put-requires
 put-requires c κs = search needs
@@ -28,8 +32,8 @@ add-put8-2 c = search needs
 put8-requires-2 : tie.Need-put8-requires-2
 put8-requires-2 c κs = search needs
 
-add-put : tie.Need-add-put
-add-put c = search needs
+add-put-2 : tie.Need-add-put-2
+add-put-2 c = search needs
 
 put-requires-2 : tie.Need-put-requires-2
 put-requires-2 c κs = search needs
@@ -46,13 +50,14 @@ returns c =
     let first = second .before .before .before .before in
     let at = first .before .before .before .args .at in
     rw
-    (fifth .put2 .ensures, fourth .put82 .ensures, third .put8 .ensures, second .put32 .ensures, first .put .ensures, add-one at, two at, three at, four at)
+    (fifth .put2 .ensures, fourth .put82 .ensures, third .put8 .ensures, second .put32 .ensures, first .put .ensures, add-zero at, add-one at, two at, three at, four at)
     refl
 
 pub put-kept-spec : {M : Type 1} → statement M
 put-kept-spec =
     tie.close
     (tie.spec
+    add-put
     put-requires
     add-put32
     put32-requires
@@ -60,7 +65,7 @@ put-kept-spec =
     put8-requires
     add-put8-2
     put8-requires-2
-    add-put
+    add-put-2
     put-requires-2
     same-length
     returns)
