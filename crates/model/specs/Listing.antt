@@ -11,13 +11,14 @@ use Rattle.model.specs.declared.Call.{Call}
 use Rattle.model.specs.declared.Call.the-variants.{Empty, Gate, Upcall}
 use Rattle.model.specs.Record.{Bank, Machine, State, stateOf}
 use Rattle.model.specs.WellFormed.{wellFormed, lentWhole}
+use Rattle.model.specs.Letters.{comma, lf, digitZero, letterE, letterF, letterR, letterW}
 
 -- ---- a line
 
 -- The digits of a number in base ten: so many at the most.
 unfoldable pub decimalIn : ℕ → ℕ → List ℕ
 decimalIn zero n = []
-decimalIn (suc k) n = cond (ltb n 10) ((48 + n) ∷ []) (decimalIn k (n / 10) ++ ((48 + n % 10) ∷ []))
+decimalIn (suc k) n = cond (ltb n 10) ((digitZero + n) ∷ []) (decimalIn k (n / 10) ++ ((digitZero + n % 10) ∷ []))
 
 -- The number in base ten. Twenty digits are enough for every number of the record.
 unfoldable pub decimal : ℕ → List ℕ
@@ -26,25 +27,25 @@ decimal n = decimalIn 20 n
 -- Fields: each a comma and a number.
 unfoldable pub fields : List ℕ → List ℕ
 fields [] = []
-fields (n ∷ ns) = 44 ∷ (decimal n ++ fields ns)
+fields (n ∷ ns) = comma ∷ (decimal n ++ fields ns)
 
 -- A line: its letter, its fields and an LF.
 unfoldable pub line : ℕ → List ℕ → List ℕ
-line letter ns = letter ∷ (fields ns ++ (10 ∷ []))
+line letter ns = letter ∷ (fields ns ++ (lf ∷ []))
 
 -- ---- the listing
 
 -- `E,end,why,clock,place,p,t`.
 unfoldable pub endLine : State → List ℕ
 endLine s =
-    line 69
+    line letterE
     (s .control .end ∷ s .control .why ∷ s .control .clock ∷ s .control .pc ∷ s .control .pair .pc ∷ s .control .pair .timing ∷ [])
 
 -- `F,kind,place,p,t,end tick` for an open call (1 gate, end tick 0; 2 upcall).
 abbrev pub callLine : Call → List ℕ
 callLine Empty = []
-callLine (Gate k q) = line 70 (1 ∷ k ∷ q .pc ∷ q .timing ∷ 0 ∷ [])
-callLine (Upcall k q e) = line 70 (2 ∷ k ∷ q .pc ∷ q .timing ∷ e ∷ [])
+callLine (Gate k q) = line letterF (1 ∷ k ∷ q .pc ∷ q .timing ∷ 0 ∷ [])
+callLine (Upcall k q e) = line letterF (2 ∷ k ∷ q .pc ∷ q .timing ∷ e ∷ [])
 
 -- The entry at k of a bank differs from value 0, label 240.
 unfoldable pub differs : Bank → ℕ → Bool
@@ -65,7 +66,7 @@ listing s =
     endLine s
     ++ (callLine (s .control .first)
     ++ (callLine (s .control .second)
-    ++ (entryLines 82 (s .registers) 0 16 ++ entryLines 87 (s .memory) 0 (s .fixed .size))))
+    ++ (entryLines letterR (s .registers) 0 16 ++ entryLines letterW (s .memory) 0 (s .fixed .size))))
 
 -- ---- the answer
 
