@@ -12,10 +12,7 @@ use Rattle.model.specs.declared.Call.{Call}
 use Rattle.model.specs.declared.Call.the-variants.{Empty, Gate, Upcall}
 use Rattle.model.specs.Record.{Bank, State}
 use Rattle.model.specs.Listing.{line, endLine, callLine, differs, entryLine, entryLines, listing}
-use Rattle.writer.specs.Writing.{Wrote, answer, writing}
 use Rattle.writer.proofs.Fields.{line-most}
-use Rattle.writer.proofs.Over.{rest, room-behind}
-use Rattle.writer.proofs.Answer.{line-wrote}
 use Rattle.printer.specs.Printing.{endFields, headLines, isListed, entryText}
 
 -- ---- the E line and the F lines
@@ -38,25 +35,6 @@ head-most c =
     rw (head-length c)
     (omega (arith, line-most 69 (endFields c), call-most (c .first), call-most (c .second)))
 
--- What is written of them: the E line, and the first F line behind it.
-module _ (c : Control) (out : List ℕ) (fits : length (headLines c) ≤ length out) where
-  pub end-wrote : {after ns : List ℕ} {n : ℕ} → answer n after ≡ writing 69 ns out → ns ≡ endFields c
-      → Wrote (line 69 (endFields c)) out n after
-  end-wrote e f =
-      line-wrote 69 (endFields c) (omega arith) (omega (arith, head-length c))
-      (e ∙ ap (λ (ns : List ℕ). writing 69 ns out) f)
-
-  pub first-room : {after : List ℕ} {n : ℕ} → Wrote (line 69 (endFields c)) out n after
-      → length (callLine (c .first)) ≤ length (rest n after)
-  first-room w =
-      room-behind (callLine (c .first)) w
-      (simp length-append (omega (arith, head-length c)))
-
-  pub second-room : {after : List ℕ} {n : ℕ} → Wrote (line 69 (endFields c) ++ callLine (c .first)) out n after
-      → length (callLine (c .second)) ≤ length (rest n after)
-  unfolding headLines
-  second-room w = room-behind (callLine (c .second)) w fits
-
 -- ---- an entry
 
 -- An entry that differs has its line.
@@ -74,12 +52,6 @@ entry-unlisted letter k label value e = rw e
 pub cond-most : (t : Bool) (xs : List ℕ) → length (cond t xs []) ≤ length xs
 cond-most true xs = omega arith
 cond-most false xs = omega arith
-
--- A line or nothing is as long with another letter.
-cond-letter : (t : Bool) (a b : ℕ) (ns : List ℕ) → length (cond t (line a ns) []) ≡ length (cond t (line b ns) [])
-unfolding line
-cond-letter true a b ns = refl
-cond-letter false a b ns = refl
 
 -- An entry takes at most a letter, three fields and an LF.
 pub entry-most : (letter k label value : ℕ) → length (entryText letter k label value) ≤ 65
@@ -116,21 +88,6 @@ pub entries-more : (letter : ℕ) (b : Bank) (k : ℕ)
 unfolding entryLines
 entries-more letter b k = rw (entries-split letter b 0 k 1, zero-add, append-nil, entry-at)
 
--- There is room for one entry more.
-pub entry-room : (letter : ℕ) (b : Bank) (k n : ℕ) → k < n
-    → length (entryLines letter b 0 k) + length (entryAt letter b k) ≤ length (entryLines letter b 0 n)
-entry-room letter b k n h =
-    let e : (k + 1) + (n - (k + 1)) ≡ n = omega arith in
-    let s = simp length-append at (ap length (entries-split letter b 0 (k + 1) (n - (k + 1)))) in
-    let f = ap (λ (i : ℕ). length (entryLines letter b 0 i)) e in
-    let m = simp length-append at (ap length (entries-more letter b k)) in
-    omega arith
-
--- The length with one entry more.
-pub length-more : (letter : ℕ) (b : Bank) (k sum count : ℕ) → sum ≡ length (entryLines letter b 0 k)
-    → count ≡ length (entryAt letter b k) → sum + count ≡ length (entryLines letter b 0 (k + 1))
-length-more letter b k sum count e f = rw (entries-more letter b k) (simp length-append (omega arith))
-
 -- n entries take at most 65 bytes each.
 pub entries-most : (letter : ℕ) (b : Bank) (j n : ℕ) → length (entryLines letter b j n) ≤ 65 * n
 unfolding entryLines
@@ -139,14 +96,6 @@ entries-most letter b j (suc n) =
     let e = ap length (entry-at letter b j) in
     simp length-append
     (omega (arith, entries-most letter b (j + 1) n, entry-most letter j (getD (b .labels) j 0) (getD (b .values) j 0)))
-
--- The length does not depend on the letter.
-pub entries-letter : (x y : ℕ) (b : Bank) (j n : ℕ) → length (entryLines x b j n) ≡ length (entryLines y b j n)
-unfolding entryLines entryLine
-entries-letter x y b j zero = refl
-entries-letter x y b j (suc n) =
-    let e = cond-letter (differs b j) x y (j ∷ getD (b .labels) j 0 ∷ getD (b .values) j 0 ∷ []) in
-    simp length-append (omega (arith, entries-letter x y b (j + 1) n))
 
 -- ---- the whole
 
@@ -163,35 +112,3 @@ pub listing-length : (s : State)
     ≡ length (headLines (s .control)) + length (entryLines 82 (s .registers) 0 16)
     + length (entryLines 87 (s .memory) 0 (s .fixed .size))
 listing-length s = rw (listing-parts s) (simp length-append)
-
--- The length counted part by part.
-pub listing-counted : (s : State) (head registers memory : ℕ) → head ≡ length (headLines (s .control))
-    → registers ≡ length (entryLines 0 (s .registers) 0 16) → memory ≡ length (entryLines 0 (s .memory) 0 (s .fixed .size))
-    → head + registers + memory ≡ length (listing s)
-listing-counted s head registers memory e f g =
-    let i = entries-letter 0 82 (s .registers) 0 16 in
-    let j = entries-letter 0 87 (s .memory) 0 (s .fixed .size) in
-    rw (listing-length s) (omega arith)
-
--- What is written of it, part by part.
-module _ (s : State) (out : List ℕ) (fits : length (listing s) ≤ length out) where
-  pub head-room : length (headLines (s .control)) ≤ length out
-  head-room = omega (arith, listing-length s)
-
-  pub registers-room : {after : List ℕ} {n : ℕ} → Wrote (headLines (s .control)) out n after
-      → length (entryLines 82 (s .registers) 0 16) ≤ length (rest n after)
-  registers-room w =
-      room-behind (entryLines 82 (s .registers) 0 16) w
-      (simp length-append (omega (arith, listing-length s)))
-
-  pub memory-room : {after : List ℕ} {n : ℕ}
-      → Wrote (headLines (s .control) ++ entryLines 82 (s .registers) 0 16) out n after
-      → length (entryLines 87 (s .memory) 0 (s .fixed .size)) ≤ length (rest n after)
-  memory-room w = room-behind (entryLines 87 (s .memory) 0 (s .fixed .size)) w (rw (listing-parts s) at fits)
-
--- The parts are the listing.
-pub listing-wrote : (s : State) {out after : List ℕ} {n : ℕ}
-    → Wrote ((headLines (s .control) ++ entryLines 82 (s .registers) 0 16) ++ entryLines 87 (s .memory) 0 (s .fixed .size))
-    out n after
-    → Wrote (listing s) out n after
-listing-wrote s w = rw (listing-parts s) w

@@ -1,15 +1,18 @@
 -- What print answers, in the paper's numbers and values, and the lines of which its code writes a listing.
 -- Assumes nothing.
-use Prim.Native.Nat.{ℕ, _≤_}
+use Prim.Native.Nat.{ℕ, _+_, _≤_}
+use mathlib.Core.Path.{_≡_}
 use mathlib.Core.Bool.{Bool, not, _&&_, cond}
 use mathlib.Core.List.{List, [], _∷_, _++_}
 use lib.Dec.{leb, eqb}
-use lib.ListN.{length, drop}
+use lib.ListN.{length, take, drop}
 use Rattle.labels.specs.Label.{lowest}
 use Rattle.model.specs.declared.Control.{Control}
 use Rattle.model.specs.declared.Pair.{Pair}
 use Rattle.model.specs.Record.{Bank, Machine, State, stateOf}
+use Rattle.model.specs.Letters.{letterE}
 use Rattle.model.specs.Listing.{line, callLine, listing, Printing, notPrinted}
+use Rattle.writer.specs.Writing.{Wrote}
 use Rattle.machine.specs.declared.Machine as struct
 use Rattle.machine.specs.Answered.{recordOf}
 use Rattle.answers.specs.Print.{numberOf, lengthOf}
@@ -49,6 +52,19 @@ pub record Entries (values labels : List ℕ) (count : ℕ) : Type 0 where
 
 -- ---- the lines
 
+-- No listing is so long: where a line begins at the most.
+abbrev pub longest : ℕ
+longest = 1048576
+
+-- No R or W line is longer.
+abbrev pub longestEntry : ℕ
+longestEntry = 65
+
+-- The text is put into an output behind its first `at` bytes, where it fits. Where it ends is given whether it fits or not.
+pub record Placed (text before : List ℕ) (at given : ℕ) (after : List ℕ) : Type 0 where
+  pub place : given ≡ at + length text
+  pub output : given ≤ length before → Wrote (take at before ++ text) before given after
+
 -- The fields of the E line.
 abbrev pub endFields : Control → List ℕ
 endFields c = c .end ∷ c .why ∷ c .clock ∷ c .pc ∷ c .pair .pc ∷ c .pair .timing ∷ []
@@ -59,7 +75,7 @@ callFields kind back q tick = kind ∷ back ∷ q .pc ∷ q .timing ∷ tick ∷
 
 -- The E line and the F lines.
 unfoldable pub headLines : Control → List ℕ
-headLines c = (line 69 (endFields c) ++ callLine (c .first)) ++ callLine (c .second)
+headLines c = (line letterE (endFields c) ++ callLine (c .first)) ++ callLine (c .second)
 
 -- An entry with this label and value has a line.
 unfoldable pub isListed : ℕ → ℕ → Bool

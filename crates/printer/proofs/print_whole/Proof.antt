@@ -33,7 +33,8 @@ returns-2 : tie.Need-returns-2
 returns-2 c =
     let start = c .before .before .before .before .before .before .before .before .before in
     listed (record-of start) (memory-of start) _ _
-    (c .before .before .before .before .before .listing-length .ensures) (c .before .before .write-listing .ensures)
+    (c .before .before .before .before .before .listing-length .ensures) (c .before .before .before .before .if1 .left)
+    (c .before .before .write-listing .ensures)
 
 pub print-whole-spec : {M : Type 1} → statement M
 print-whole-spec =
