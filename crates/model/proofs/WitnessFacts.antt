@@ -23,7 +23,7 @@ use Rattle.model.specs.Step.{fetch, endTick, finish, fault, attempt, bey
 use Rattle.model.specs.Answer.{answer}
 use Rattle.model.specs.Text.{isDigit, digits, decimalFrom, wellWritten, number, field, readFields, fieldCount, lineOf, readLine, linesIn, lines}
 use Rattle.model.specs.Load.{headerInRange, gateInRange, entryInRange, leastOf, judge, cleared, fill, load}
-use Rattle.model.specs.Listing.{decimalIn, decimal, fields, line, differs, entryLine, entryLines}
+use Rattle.model.specs.Listing.{decimalIn, decimal, fields, line, headLines, isListed, entryLine, entryLines}
 use Rattle.model.specs.Program.{stateOfLoad}
 use Rattle.model.specs.Seen.{within, exists, Seen, hidden, shown, seenAt, SeenControl, unseen, seen, seenControl, LowEquivalent}
 use Rattle.model.specs.Noninterference.{Invocation, lend, regain, answered, after, runStates, workStates, callStates, trace, final, atTick, reached, downgrades, gateCallsIn, timedFromOutside, StepsProvisos, Provisos, SameSetting}
@@ -273,7 +273,7 @@ counterexample ℓ k s t qs met l m e p q =
 
 -- All that a table computes with: the definitions of labels too. Who says `unfolding computing` opens each of them.
 unfoldable pub computing : Bool
-unfolding subset label integrity confidentiality flows join meet reflection uncompromised validPair lowest mayRaise mayRelabel newest inUpcall valueAt labelAt fixedInRange endInRange upcallWellFormed wellFormed lentWhole opField aField bField cField dField nField decode compute isLabel significantBits multiplyTicks newPairAllowed mayUpcall mayCallGate mayReturn table fetch endTick finish fault attempt beyondLimit inLimit running decide written causeAllowed causeWrite writeOf restored changed controlAfter apply step steps run answer within exists seenAt seenControl lend regain answered after runStates workStates callStates trace final atTick reached downgrades gateCallsIn timedFromOutside sameSeen samePair sameCall sameControl sameSeenControl leadingZeros isDigit digits decimalFrom wellWritten number field readFields fieldCount lineOf readLine linesIn lines headerInRange gateInRange entryInRange leastOf judge cleared fill load decimalIn decimal fields line differs entryLine entryLines
+unfolding subset label integrity confidentiality flows join meet reflection uncompromised validPair lowest mayRaise mayRelabel newest inUpcall valueAt labelAt fixedInRange endInRange upcallWellFormed wellFormed lentWhole opField aField bField cField dField nField decode compute isLabel significantBits multiplyTicks newPairAllowed mayUpcall mayCallGate mayReturn table fetch endTick finish fault attempt beyondLimit inLimit running decide written causeAllowed causeWrite writeOf restored changed controlAfter apply step steps run answer within exists seenAt seenControl lend regain answered after runStates workStates callStates trace final atTick reached downgrades gateCallsIn timedFromOutside sameSeen samePair sameCall sameControl sameSeenControl leadingZeros isDigit digits decimalFrom wellWritten number field readFields fieldCount lineOf readLine linesIn lines headerInRange gateInRange entryInRange leastOf judge cleared fill load decimalIn decimal fields line headLines isListed entryLine entryLines
 computing = true
 
 -- The two machines of the main witness differ as their table says, at a sound label and at one that isn't.

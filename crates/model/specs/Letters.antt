@@ -48,7 +48,21 @@ letterF = 70
 abbrev pub letterX : ℕ
 letterX = 88
 
+-- ---- the kinds of a call, as an F line tells them
+
+-- A gate call.
+abbrev pub gateKind : ℕ
+gateKind = 1
+
+-- An upcall.
+abbrev pub upcallKind : ℕ
+upcallKind = 2
+
 -- ---- limits
+
+-- The most fields of a line.
+abbrev pub mostFields : ℕ
+mostFields = 6
 
 -- The most digits of a number that is read.
 abbrev pub mostDigits : ℕ

@@ -4,7 +4,6 @@ use Prim.Native.Nat.{ℕ, _<_, _≤_}
 use mathlib.Core.Path.{_≡_, refl, sym, ap, _∙_}
 use mathlib.Core.Bool.{Bool, true, false, _&&_}
 use mathlib.Core.List.{List}
-use native.Mathlib.Omega.{arith}
 use lib.Dec.{leb}
 use lib.ListN.{length}
 use borrow.Author.Tests.{le-leb, lt-leb, leb-true}
@@ -13,8 +12,8 @@ use Rattle.model.specs.WellFormed.{wellFormed, lentWhole}
 use Rattle.model.specs.Listing.{listing, Printing, notPrinted, print}
 use Rattle.model.proofs.Truth.{and-iff}
 use Rattle.model.proofs.WellFormed.{fit}
-use Rattle.writer.specs.Writing.{over}
-use Rattle.printer.specs.Printing.{printedWhole, Entries, Placed}
+use Rattle.writer.specs.Writing.{over, Wrote}
+use Rattle.printer.specs.Printing.{printedWhole, Entries}
 
 module _ (r : Machine) (m : Bank) (out : List ℕ) where
   -- ---- the output's length
@@ -26,13 +25,11 @@ module _ (r : Machine) (m : Bank) (out : List ℕ) where
   short-output count e l = rw (lt-leb (length (listing (stateOf r m))) (length out) (rw e at l))
 
   -- The listing, written.
-  pub listed : {after : List ℕ} {n : ℕ} (count : ℕ) → count ≡ length (listing (stateOf r m)) → count ≤ length out
-      → Placed (listing (stateOf r m)) out 0 n after
+  pub listed : {after : List ℕ} {n : ℕ} (count : ℕ) → count ≡ length (listing (stateOf r m))
+      → Wrote (listing (stateOf r m)) out n after
       → record { number = 0; machine = r; bytes = count; output = after } ≡ printedWhole r m out
   unfolding printedWhole over
-  listed count e l p =
-      let w = p .output (omega (arith, p .place)) in
-      rw (le-leb (length (listing (stateOf r m))) (length out) (w .fits), e, w .output)
+  listed count e w = rw (le-leb (length (listing (stateOf r m))) (length out) (w .fits), e, w .output)
 
   -- ---- the record and the memory
 

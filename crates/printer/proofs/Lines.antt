@@ -1,4 +1,4 @@
--- The lines of a listing, as its code counts and writes them: the E and F lines, and the lines of entries one by one.
+-- The lines of a listing, as its code writes them: the E and F lines, and the lines of entries one by one.
 -- Assumes nothing.
 use Prim.Native.Nat.{ℕ, zero, suc, _+_, _-_, _*_, _<_, _≤_}
 use mathlib.Core.Path.{_≡_, refl, ap, _∙_}
@@ -11,9 +11,8 @@ use Rattle.model.specs.declared.Control.{Control}
 use Rattle.model.specs.declared.Call.{Call}
 use Rattle.model.specs.declared.Call.the-variants.{Empty, Gate, Upcall}
 use Rattle.model.specs.Record.{Bank, State}
-use Rattle.model.specs.Listing.{line, endLine, callLine, differs, entryLine, entryLines, listing}
+use Rattle.model.specs.Listing.{line, endFields, callLine, headLines, isListed, entryLine, entryLines, listing}
 use Rattle.writer.proofs.Fields.{line-most}
-use Rattle.printer.specs.Printing.{endFields, headLines, isListed, entryText}
 
 -- ---- the E line and the F lines
 
@@ -39,13 +38,13 @@ head-most c =
 
 -- An entry that differs has its line.
 pub entry-listed : (letter k label value : ℕ) → isListed label value ≡ true
-    → entryText letter k label value ≡ line letter (k ∷ label ∷ value ∷ [])
-unfolding entryText
+    → entryLine letter k label value ≡ line letter (k ∷ label ∷ value ∷ [])
+unfolding entryLine
 entry-listed letter k label value e = rw e
 
 -- Any other has none.
-pub entry-unlisted : (letter k label value : ℕ) → isListed label value ≡ false → entryText letter k label value ≡ []
-unfolding entryText
+pub entry-unlisted : (letter k label value : ℕ) → isListed label value ≡ false → entryLine letter k label value ≡ []
+unfolding entryLine
 entry-unlisted letter k label value e = rw e
 
 -- A line or nothing is no longer than the line.
@@ -54,8 +53,8 @@ cond-most true xs = omega arith
 cond-most false xs = omega arith
 
 -- An entry takes at most a letter, three fields and an LF.
-pub entry-most : (letter k label value : ℕ) → length (entryText letter k label value) ≤ 65
-unfolding entryText
+pub entry-most : (letter k label value : ℕ) → length (entryLine letter k label value) ≤ 65
+unfolding entryLine
 entry-most letter k label value =
     omega (
       arith,
@@ -67,11 +66,7 @@ entry-most letter k label value =
 
 -- The entry k of a bank.
 abbrev pub entryAt : ℕ → Bank → ℕ → List ℕ
-entryAt letter b k = entryText letter k (getD (b .labels) k 0) (getD (b .values) k 0)
-
-pub entry-at : (letter : ℕ) (b : Bank) (k : ℕ) → entryLine letter b k ≡ entryAt letter b k
-unfolding entryLine differs entryText isListed
-entry-at letter b k = refl
+entryAt letter b k = entryLine letter k (getD (b .labels) k 0) (getD (b .values) k 0)
 
 -- The lines of m entries, and those of n entries behind them.
 entries-split : (letter : ℕ) (b : Bank) (j m n : ℕ)
@@ -86,29 +81,22 @@ entries-split letter b j (suc m) n =
 pub entries-more : (letter : ℕ) (b : Bank) (k : ℕ)
     → entryLines letter b 0 (k + 1) ≡ entryLines letter b 0 k ++ entryAt letter b k
 unfolding entryLines
-entries-more letter b k = rw (entries-split letter b 0 k 1, zero-add, append-nil, entry-at)
+entries-more letter b k = rw (entries-split letter b 0 k 1, zero-add, append-nil)
 
 -- n entries take at most 65 bytes each.
 pub entries-most : (letter : ℕ) (b : Bank) (j n : ℕ) → length (entryLines letter b j n) ≤ 65 * n
 unfolding entryLines
 entries-most letter b j zero = omega arith
 entries-most letter b j (suc n) =
-    let e = ap length (entry-at letter b j) in
     simp length-append
     (omega (arith, entries-most letter b (j + 1) n, entry-most letter j (getD (b .labels) j 0) (getD (b .values) j 0)))
 
 -- ---- the whole
 
--- A listing is its E and F lines, the R lines and the W lines.
-pub listing-parts : (s : State)
-    → listing s ≡ (headLines (s .control) ++ entryLines 82 (s .registers) 0 16)
-    ++ entryLines 87 (s .memory) 0 (s .fixed .size)
-unfolding listing headLines endLine
-listing-parts s = simp append-assoc
-
--- Its length.
+-- The length of a listing.
 pub listing-length : (s : State)
     → length (listing s)
     ≡ length (headLines (s .control)) + length (entryLines 82 (s .registers) 0 16)
     + length (entryLines 87 (s .memory) 0 (s .fixed .size))
-listing-length s = rw (listing-parts s) (simp length-append)
+unfolding listing
+listing-length s = simp length-append

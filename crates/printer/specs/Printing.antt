@@ -1,17 +1,13 @@
--- What print answers, in the paper's numbers and values, and the lines of which its code writes a listing.
+-- What print answers, in the paper's numbers and values, and how its code writes a listing.
 -- Assumes nothing.
 use Prim.Native.Nat.{ℕ, _+_, _≤_}
 use mathlib.Core.Path.{_≡_}
-use mathlib.Core.Bool.{Bool, not, _&&_, cond}
-use mathlib.Core.List.{List, [], _∷_, _++_}
-use lib.Dec.{leb, eqb}
+use mathlib.Core.Bool.{cond}
+use mathlib.Core.List.{List, _++_}
+use lib.Dec.{leb}
 use lib.ListN.{length, take, drop}
-use Rattle.labels.specs.Label.{lowest}
-use Rattle.model.specs.declared.Control.{Control}
-use Rattle.model.specs.declared.Pair.{Pair}
 use Rattle.model.specs.Record.{Bank, Machine, State, stateOf}
-use Rattle.model.specs.Letters.{letterE}
-use Rattle.model.specs.Listing.{line, callLine, listing, Printing, notPrinted}
+use Rattle.model.specs.Listing.{listing, Printing, notPrinted}
 use Rattle.writer.specs.Writing.{Wrote}
 use Rattle.machine.specs.declared.Machine as struct
 use Rattle.machine.specs.Answered.{recordOf}
@@ -50,7 +46,7 @@ pub record Entries (values labels : List ℕ) (count : ℕ) : Type 0 where
   pub labelled : count ≤ length labels
   pub most : count ≤ 2048
 
--- ---- the lines
+-- ---- what the writing functions promise
 
 -- No listing is so long: where a line begins at the most.
 abbrev pub longest : ℕ
@@ -64,23 +60,3 @@ longestEntry = 65
 pub record Placed (text before : List ℕ) (at given : ℕ) (after : List ℕ) : Type 0 where
   pub place : given ≡ at + length text
   pub output : given ≤ length before → Wrote (take at before ++ text) before given after
-
--- The fields of the E line.
-abbrev pub endFields : Control → List ℕ
-endFields c = c .end ∷ c .why ∷ c .clock ∷ c .pc ∷ c .pair .pc ∷ c .pair .timing ∷ []
-
--- The fields of an F line.
-abbrev pub callFields : ℕ → ℕ → Pair → ℕ → List ℕ
-callFields kind back q tick = kind ∷ back ∷ q .pc ∷ q .timing ∷ tick ∷ []
-
--- The E line and the F lines.
-unfoldable pub headLines : Control → List ℕ
-headLines c = (line letterE (endFields c) ++ callLine (c .first)) ++ callLine (c .second)
-
--- An entry with this label and value has a line.
-unfoldable pub isListed : ℕ → ℕ → Bool
-isListed label value = not (eqb value 0 && eqb label lowest)
-
--- The R or W line of the entry k with this label and value, or nothing.
-unfoldable pub entryText : ℕ → ℕ → ℕ → ℕ → List ℕ
-entryText letter k label value = cond (isListed label value) (line letter (k ∷ label ∷ value ∷ [])) []

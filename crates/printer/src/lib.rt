@@ -5,10 +5,11 @@ ghost use mathlib.Core.Bool.{_&&_};
 ghost use Prim.Native.Nat.{_+_, _*_, _≤_};
 ghost use lib.Dec.{leb};
 ghost use lib.ListN.{length};
-ghost use Rattle.model.specs.Listing.{line, callLine, entryLines, listing};
+ghost use Rattle.model.specs.Letters.{mostFields};
+ghost use Rattle.model.specs.Listing.{line, endFields, callFields, callLine, headLines, isListed, entryLine, entryLines, listing};
 ghost use Rattle.model.specs.Listing.{print as Listing·print};
 ghost use Rattle.machine.specs.Answered.{recordOf};
-ghost use Rattle.printer.specs.Printing.{printingOf, lent, stateWith, printedWhole, Entries, longest, longestEntry, Placed, endFields, callFields, headLines, isListed, entryText};
+ghost use Rattle.printer.specs.Printing.{printingOf, lent, stateWith, printedWhole, Entries, longest, longestEntry, Placed};
 use answers::print::Outcome;
 use labels::Label;
 use machine::Machine;
@@ -25,6 +26,11 @@ const F: u8 = b'F';
 const R: u8 = b'R';
 
 const W: u8 = b'W';
+
+// The kinds of a call on an F line.
+const GATE: u64 = 1;
+
+const UPCALL: u64 = 2;
 
 // How many registers there are.
 const REGISTERS: usize = 16;
@@ -114,7 +120,7 @@ fn write_listing(out: &mut [u8], machine: Machine, words: &[u32], labels: &[u8])
 
 // Writes a line.
 fn write_line_at(out: &mut [u8], at: usize, letter: u8, numbers: &[u64]) -> usize
-    requires { ⌜ (at ≤ longest) × (length (now numbers) ≤ 6) ⌝ }
+    requires { ⌜ (at ≤ longest) × (length (now numbers) ≤ mostFields) ⌝ }
     ensures { λ r. ⌜ Placed (line letter (now (numbers .entry))) (now (out .entry)) at r (now (out .exit)) ⌝ }
 {
     if out.len() < at {
@@ -159,17 +165,17 @@ fn write_call(out: &mut [u8], at: usize, call: Call) -> usize
 {
     match call {
         Call::Empty => at,
-        Call::Gate(back, pair) => write_line_at(out, at, F, &call_fields(1, back, pair, 0)),
+        Call::Gate(back, pair) => write_line_at(out, at, F, &call_fields(GATE, back, pair, 0)),
         Call::Upcall(back, pair, tick) => write_line_at(
             out,
             at,
             F,
-            &call_fields(2, back, pair, tick),
+            &call_fields(UPCALL, back, pair, tick),
         ),
     }
 }
 
-// The fields of an F line: kind (1 gate, 2 upcall), return pc, pair, end tick.
+// The fields of an F line: kind, return pc, pair, end tick.
 fn call_fields(kind: u64, back: u32, pair: Pair, tick: u64) -> [u64; 5]
     ensures { λ r. ⌜ r ≡ callFields kind back pair tick ⌝ }
 {
@@ -204,7 +210,7 @@ fn write_entries(
 // Writes the line of an entry, if it has one.
 fn write_entry(out: &mut [u8], at: usize, letter: u8, k: usize, label: u8, value: u32) -> usize
     requires { ⌜ at ≤ longest ⌝ }
-    ensures { λ r. ⌜ Placed (entryText letter k label value) (now (out .entry)) at r (now (out .exit)) ⌝ }
+    ensures { λ r. ⌜ Placed (entryLine letter k label value) (now (out .entry)) at r (now (out .exit)) ⌝ }
 {
     if is_listed(label, value) {
         write_line_at(out, at, letter, &[k as u64, label as u64, value as u64])

@@ -6,6 +6,7 @@ use mathlib.Core.Bool.{cond}
 use mathlib.Core.List.{List, _++_}
 use lib.Dec.{leb}
 use lib.ListN.{length, drop}
+use Rattle.model.specs.Letters.{mostFields}
 use Rattle.model.specs.Listing.{line}
 
 -- A text written over the beginning of an output: what stands behind it stays.
@@ -34,4 +35,4 @@ written text out = answer (length text) (cond (leb (length text) (length out)) (
 
 -- A line of up to six fields is written so. More fields are no line: no byte.
 unfoldable pub writing : ℕ → List ℕ → List ℕ → Writing
-writing letter ns out = cond (leb (length ns) 6) (written (line letter ns) out) (answer 0 out)
+writing letter ns out = cond (leb (length ns) mostFields) (written (line letter ns) out) (answer 0 out)

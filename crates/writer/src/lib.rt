@@ -7,7 +7,7 @@ ghost use mathlib.Core.Path.{_≡_};
 ghost use mathlib.Core.List.{_∷_};
 ghost use Prim.Native.Nat.{_≤_, _<_};
 ghost use lib.ListN.{length};
-ghost use Rattle.model.specs.Letters.{comma};
+ghost use Rattle.model.specs.Letters.{comma, mostFields};
 ghost use Rattle.model.specs.Listing.{decimal, fields};
 ghost use Rattle.writer.specs.Writing.{Wrote, answer, writing};
 
@@ -34,7 +34,7 @@ pub fn write_line(out: &mut [u8], letter: u8, numbers: &[u64]) -> usize
 
 // How many bytes the fields take.
 fn fields_length(numbers: &[u64]) -> usize
-    requires { ⌜ length (now numbers) ≤ 6 ⌝ }
+    requires { ⌜ length (now numbers) ≤ mostFields ⌝ }
     ensures { λ r. ⌜ r ≡ length (fields (now (numbers .entry))) ⌝ }
 {
     let mut sum: usize = 0;

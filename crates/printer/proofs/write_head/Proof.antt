@@ -4,9 +4,9 @@ use Prim.Native.Nat.{_≤_}
 use native.Mathlib.Omega.{arith}
 use borrow.Author.Needs.{needs}
 use Rattle.model.specs.Letters.{letterE}
-use Rattle.model.specs.Listing.{line}
+use Rattle.model.specs.Listing.{line, endFields, headLines}
 use Rattle.writer.proofs.Fields.{line-most}
-use Rattle.printer.specs.Printing.{endFields, headLines, Placed}
+use Rattle.printer.specs.Printing.{Placed}
 use Rattle.printer.proofs.Lines.{call-most}
 use Rattle.printer.proofs.Places.{placed-then}
 use Rattle.printer.proofs.write_head.Statement.{statement}

@@ -7,9 +7,10 @@ use lib.ListN.{length}
 use borrow.Author.Needs.{length-unmapped, needs}
 use Rattle.model.specs.Letters.{letterR, letterW}
 use Rattle.model.specs.Record.{stateOf, State}
+use Rattle.model.specs.Listing.{entryLines, listing}
 use Rattle.machine.specs.Answered.{recordOf}
 use Rattle.printer.specs.Printing.{lent, Entries}
-use Rattle.printer.proofs.Lines.{head-most, entries-most, listing-parts}
+use Rattle.printer.proofs.Lines.{head-most, entries-most}
 use Rattle.printer.proofs.Places.{placed-then}
 use Rattle.printer.proofs.write_listing.Statement.{statement}
 use Rattle.printer.proofs.write_listing.Tie as tie
@@ -78,13 +79,15 @@ same-length : tie.Need-same-length
 same-length c = search needs
 
 returns : tie.Need-returns
+unfolding listing
 returns c =
     let headed = c .before .before .before .before .before .before .before .before .before .before .before .before in
     let start = headed .before .before .before .before .before .before .before .before .before in
-    rw (listing-parts (state start))
-    (placed-then
-    (placed-then (headed .write-head .ensures) (c .before .before .before .before .before .before .write-entries .ensures))
-    (c .before .before .write-entries2 .ensures))
+    let s = state start in
+    placed-then {b = entryLines letterW (s .memory) 0 (s .fixed .size)}
+    (placed-then {b = entryLines letterR (s .registers) 0 16} (headed .write-head .ensures)
+    (c .before .before .before .before .before .before .write-entries .ensures))
+    (c .before .before .write-entries2 .ensures)
 
 pub write-listing-spec : {M : Type 1} → statement M
 write-listing-spec =
