@@ -20,7 +20,7 @@ use Rattle.model.specs.Record.{Bank, Machine, State, register, word, valueAt, l
 use Rattle.model.specs.Word.{Op, immediate, arithmetic, load as loadWord, store, branch, jump, readClock, setLabel, setPair, upcall, endUpcall, gateCall, gateReturn, halt}
 use Rattle.model.specs.Ops.{Write, nothing, value, label, newPairAllowed, mayUpcall, mayCallGate, mayReturn, Rb, table}
 use Rattle.model.specs.Step.{Fetched, failed, fetched, fetch, Decision, rest, spend, stall, close, carry, endTick, finish, fault, attempt, inTime, plan, beyondLimit, inLimit, running, decide, written, causeAllowed, causeWrite, writeOf, controlAfter, withControl, apply, step, steps, run}
-use Rattle.model.specs.Listing.{differs, entryLine, entryLines, endLine, line, listing}
+use Rattle.model.specs.Listing.{entryLines, line, listing}
 use Rattle.model.specs.declared.format.Line.{Line}
 use Rattle.model.specs.declared.format.Line.the-variants.{M, G, R, W, Malformed}
 use Rattle.model.specs.declared.judging.Header.{Header}
@@ -223,13 +223,13 @@ run-alike s t h x y =
 -- It reads below the size.
 entries-same : (letter size : ℕ) (m n : Bank) → Agree size m n → (j k : ℕ) → j + k ≤ size
     → entryLines letter m j k ≡ entryLines letter n j k
-unfolding entryLines entryLine differs
+unfolding entryLines
 entries-same letter size m n a j zero h = refl
 entries-same letter size m n a j (suc k) h =
     rw (a .values j (omega arith), a .labels j (omega arith), entries-same letter size m n a (j + 1) k (omega arith))
 
 listing-both : (r : Machine) (m n : Bank) → Agree (r .fixed .size) m n → listing (stateOf r m) ≡ listing (stateOf r n)
-unfolding listing endLine
+unfolding listing
 listing-both r m n a = rw (entries-same 87 (r .fixed .size) m n a 0 (r .fixed .size) (omega arith))
 
 listing-alike : (s t : State) → Alike s t → listing s ≡ listing t

@@ -9,7 +9,8 @@ ghost use mathlib.Core.Path.{_≡_};
 ghost use lib.ListN.{length, take};
 ghost use Rattle.machine.specs.Answered.{lent};
 ghost use Rattle.model.specs.Program.{fire, fireWhole, fireAlone};
-ghost use Rattle.fire.specs.Fired.{fired, replied};
+ghost use Rattle.writer.specs.Writing.{answer};
+ghost use Rattle.fire.specs.Fired.{fired, replied, refusing};
 
 // The letter of a refusal's line.
 const X: u8 = b'X';
@@ -30,13 +31,21 @@ pub fn fire(text: &[u8], words: &mut [u32], labels: &mut [u8], out: &mut [u8]) -
     let Outcome::Done = outcome else {
         let number = outcome.number() as u64;
         let line = loaded.line as u64;
-        return write_line(out, X, &[number, line]);
+        return write_refusal(out, number, line);
     };
     let machine = loaded.machine;
     let answer = machine.run(words, labels);
     let last = answer.machine;
     let printed = print(last, words, labels, out);
     printed.bytes
+}
+
+// Writes the line of a refusal and gives how many bytes it takes, or 0 where the output is too short.
+fn write_refusal(out: &mut [u8], number: u64, line: u64) -> usize
+    ensures { λ r. ⌜ answer r (now (out .exit)) ≡ refusing number line (now (out .entry)) ⌝ }
+{
+    let count = write_line(out, X, &[number, line]);
+    if out.len() < count { 0 } else { count }
 }
 
 // Fires a text in a memory that has room for every machine and into an output that has room for every reply, and gives

@@ -6,6 +6,7 @@ pub mod Word
 pub mod Ops
 pub mod Step
 pub mod Answer
+pub mod Letters
 pub mod Text
 pub mod Load
 pub mod Listing

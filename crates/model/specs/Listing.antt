@@ -12,17 +12,20 @@ use Rattle.causes.specs.declared.Cause.the-variants.{ShortMemory, IllFormed, Sh
 use Rattle.causes.specs.declared.Outcome.{Outcome}
 use Rattle.causes.specs.declared.Outcome.the-variants.{Done, Refused}
 use Rattle.causes.specs.Tests.{unless}
+use Rattle.model.specs.declared.Pair.{Pair}
+use Rattle.model.specs.declared.Control.{Control}
 use Rattle.model.specs.declared.Call.{Call}
 use Rattle.model.specs.declared.Call.the-variants.{Empty, Gate, Upcall}
 use Rattle.model.specs.Record.{Bank, Machine, State, stateOf}
 use Rattle.model.specs.WellFormed.{wellFormed, lentWhole}
+use Rattle.model.specs.Letters.{comma, lf, digitZero, letterE, letterF, letterR, letterW, gateKind, upcallKind}
 
 -- ---- a line
 
 -- The digits of a number in base ten: so many at the most.
 unfoldable pub decimalIn : ℕ → ℕ → List ℕ
 decimalIn zero n = []
-decimalIn (suc k) n = cond (ltb n 10) ((48 + n) ∷ []) (decimalIn k (n / 10) ++ ((48 + n % 10) ∷ []))
+decimalIn (suc k) n = cond (ltb n 10) ((digitZero + n) ∷ []) (decimalIn k (n / 10) ++ ((digitZero + n % 10) ∷ []))
 
 -- The number in base ten. Twenty digits are enough for every number of the record.
 unfoldable pub decimal : ℕ → List ℕ
@@ -31,46 +34,50 @@ decimal n = decimalIn 20 n
 -- Fields: each a comma and a number.
 unfoldable pub fields : List ℕ → List ℕ
 fields [] = []
-fields (n ∷ ns) = 44 ∷ (decimal n ++ fields ns)
+fields (n ∷ ns) = comma ∷ (decimal n ++ fields ns)
 
 -- A line: its letter, its fields and an LF.
 unfoldable pub line : ℕ → List ℕ → List ℕ
-line letter ns = letter ∷ (fields ns ++ (10 ∷ []))
+line letter ns = letter ∷ (fields ns ++ (lf ∷ []))
 
 -- ---- the listing
 
--- `E,end,why,clock,place,p,t`.
-unfoldable pub endLine : State → List ℕ
-endLine s =
-    line 69
-    (s .control .end ∷ s .control .why ∷ s .control .clock ∷ s .control .pc ∷ s .control .pair .pc ∷ s .control .pair .timing ∷ [])
+-- The fields of the E line: `E,end,why,clock,place,p,t`.
+abbrev pub endFields : Control → List ℕ
+endFields c = c .end ∷ c .why ∷ c .clock ∷ c .pc ∷ c .pair .pc ∷ c .pair .timing ∷ []
 
--- `F,kind,place,p,t,end tick` for an open call (1 gate, end tick 0; 2 upcall).
+-- The fields of an F line: `F,kind,place,p,t,end tick`.
+abbrev pub callFields : ℕ → ℕ → Pair → ℕ → List ℕ
+callFields kind back q tick = kind ∷ back ∷ q .pc ∷ q .timing ∷ tick ∷ []
+
+-- The F line of an open call; the end tick of a gate call is 0.
 abbrev pub callLine : Call → List ℕ
 callLine Empty = []
-callLine (Gate k q) = line 70 (1 ∷ k ∷ q .pc ∷ q .timing ∷ 0 ∷ [])
-callLine (Upcall k q e) = line 70 (2 ∷ k ∷ q .pc ∷ q .timing ∷ e ∷ [])
+callLine (Gate k q) = line letterF (callFields gateKind k q 0)
+callLine (Upcall k q e) = line letterF (callFields upcallKind k q e)
 
--- The entry at k of a bank differs from value 0, label 240.
-unfoldable pub differs : Bank → ℕ → Bool
-differs b k = not (eqb (getD (b .values) k 0) 0 && eqb (getD (b .labels) k 0) lowest)
+-- The E line, then F lines for open calls, older first.
+unfoldable pub headLines : Control → List ℕ
+headLines c = (line letterE (endFields c) ++ callLine (c .first)) ++ callLine (c .second)
 
--- The R or W line of an entry, or nothing.
-unfoldable pub entryLine : ℕ → Bank → ℕ → List ℕ
-entryLine letter b k = cond (differs b k) (line letter (k ∷ getD (b .labels) k 0 ∷ getD (b .values) k 0 ∷ [])) []
+-- An entry with this label and value has a line: it differs from value 0, label 240.
+unfoldable pub isListed : ℕ → ℕ → Bool
+isListed label value = not (eqb value 0 && eqb label lowest)
+
+-- The R or W line of the entry k with this label and value, or nothing.
+unfoldable pub entryLine : ℕ → ℕ → ℕ → ℕ → List ℕ
+entryLine letter k label value = cond (isListed label value) (line letter (k ∷ label ∷ value ∷ [])) []
 
 -- The lines of n entries from k on.
 unfoldable pub entryLines : ℕ → Bank → ℕ → ℕ → List ℕ
 entryLines letter b k zero = []
-entryLines letter b k (suc n) = entryLine letter b k ++ entryLines letter b (k + 1) n
+entryLines letter b k (suc n) =
+    entryLine letter k (getD (b .labels) k 0) (getD (b .values) k 0) ++ entryLines letter b (k + 1) n
 
--- The listing: the E line, F lines for open calls, older first, then R and W lines that differ from value 0, label 240.
+-- The listing: the E line and the F lines, then R lines and W lines.
 unfoldable pub listing : State → List ℕ
 listing s =
-    endLine s
-    ++ (callLine (s .control .first)
-    ++ (callLine (s .control .second)
-    ++ (entryLines 82 (s .registers) 0 16 ++ entryLines 87 (s .memory) 0 (s .fixed .size))))
+    (headLines (s .control) ++ entryLines letterR (s .registers) 0 16) ++ entryLines letterW (s .memory) 0 (s .fixed .size)
 
 -- ---- the answer
 

@@ -3,22 +3,21 @@
 -- Assumes nothing.
 use Prim.Native.Nat.{ℕ, zero, suc, _+_, _-_, _*_}
 use mathlib.Core.Bool.{Bool, not, _&&_, _||_, cond}
-use mathlib.Core.List.{List, [], _∷_}
+use mathlib.Core.List.{List, [], _∷_, _++_}
 use lib.Dec.{leb, eqb}
 use lib.ListN.{length, drop, getD}
 use Rattle.model.specs.declared.format.Number.{Number}
 use Rattle.model.specs.declared.format.Number.the-variants.{Value, Bad as BadNumber}
-use Rattle.model.specs.declared.format.Triple.{Triple}
-use Rattle.model.specs.declared.format.Triple.the-variants.{Values, Bad as BadTriple}
 use Rattle.model.specs.declared.format.Line.{Line}
 use Rattle.model.specs.declared.format.Line.the-variants.{M, G, R, W, Malformed}
 use Rattle.model.specs.declared.format.Read.{Read}
+use Rattle.model.specs.Letters.{comma, lf, digitZero, digitNine, letterM, letterG, letterR, letterW, mostDigits}
 
 -- ---- numbers
 
 -- The byte is one of 0 to 9.
 unfoldable pub isDigit : ℕ → Bool
-isDigit b = leb 48 b && leb b 57
+isDigit b = leb digitZero b && leb b digitNine
 
 -- The digits that a text begins with.
 unfoldable pub digits : List ℕ → List ℕ
@@ -28,11 +27,13 @@ digits (b ∷ xs) = cond (isDigit b) (b ∷ digits xs) []
 -- The number that digits write in base ten behind the number n.
 unfoldable pub decimalFrom : ℕ → List ℕ → ℕ
 decimalFrom n [] = n
-decimalFrom n (b ∷ ds) = decimalFrom (n * 10 + (b - 48)) ds
+decimalFrom n (b ∷ ds) = decimalFrom (n * 10 + (b - digitZero)) ds
 
 -- One to ten digits without leading zeros.
 unfoldable pub wellWritten : List ℕ → Bool
-wellWritten ds = leb 1 (length ds) && leb (length ds) 10 && (eqb (length ds) 1 || not (eqb (getD ds 0 48) 48))
+wellWritten ds =
+    leb 1 (length ds) && leb (length ds) mostDigits
+    && (eqb (length ds) 1 || not (eqb (getD ds 0 digitZero) digitZero))
 
 -- The number that a text begins with.
 unfoldable pub number : List ℕ → Number
@@ -41,30 +42,48 @@ number xs = cond (wellWritten (digits xs)) (Value (decimalFrom 0 (digits xs)) (l
 -- The field that a text begins with: a comma and a number.
 unfoldable pub field : List ℕ → Number
 field [] = BadNumber
-field (b ∷ xs) = cond (eqb b 44) (number xs) BadNumber
+field (b ∷ xs) = cond (eqb b comma) (number xs) BadNumber
 
--- ---- three fields
+-- ---- fields
 
--- The third field, behind the numbers a and b in n bytes.
-abbrev pub third : ℕ → ℕ → ℕ → Number → Triple
-third a b n (Value c k) = Values a b c (n + k)
-third a b n BadNumber = BadTriple
+-- Some fields in a row: their numbers, and how many bytes they take; or one of them is bad.
+pub data Fields : Type 0 where
+  Values : List ℕ → ℕ → Fields
+  BadFields : Fields
 
--- The second field, behind the number a in n bytes of the text.
-abbrev pub second : List ℕ → ℕ → ℕ → Number → Triple
-second xs a n (Value b k) = third a b (n + k) (field (drop (n + k) xs))
-second xs a n BadNumber = BadTriple
+-- One field more, behind those with the numbers ns in n bytes.
+abbrev pub withField : List ℕ → ℕ → Number → Fields
+withField ns n (Value v k) = Values (ns ++ (v ∷ [])) (n + k)
+withField ns n BadNumber = BadFields
 
--- The first field.
-abbrev pub first : List ℕ → Number → Triple
-first xs (Value a n) = second xs a n (field (drop n xs))
-first xs BadNumber = BadTriple
+-- The field of the text behind the fields before it.
+abbrev pub nextField : List ℕ → Fields → Fields
+nextField xs (Values ns n) = withField ns n (field (drop n xs))
+nextField xs BadFields = BadFields
 
--- The three fields that a text begins with.
-unfoldable pub triple : List ℕ → Triple
-triple xs = first xs (field xs)
+-- So many fields that a text begins with.
+unfoldable pub readFields : ℕ → List ℕ → Fields
+readFields zero xs = Values [] 0
+readFields (suc k) xs = nextField xs (readFields k xs)
 
 -- ---- a line
+
+-- How many fields a line has, by its letter; 0 for a byte that is no letter of a line.
+unfoldable pub fieldCount : ℕ → ℕ
+fieldCount letter =
+    cond (eqb letter letterM) 6
+    (cond (eqb letter letterG) 3
+    (cond (eqb letter letterR) 3
+    (cond (eqb letter letterW) 3 0)))
+
+-- The line with a letter and its numbers.
+unfoldable pub lineOf : ℕ → List ℕ → Line
+lineOf letter ns =
+    let n : ℕ → ℕ = λ i. getD ns i 0 in
+    cond (eqb letter letterM) (M (n 0) (n 1) (n 2) (n 3) (n 4) (n 5))
+    (cond (eqb letter letterG) (G (n 0) (n 1) (n 2))
+    (cond (eqb letter letterR) (R (n 0) (n 1) (n 2))
+    (cond (eqb letter letterW) (W (n 0) (n 1) (n 2)) Malformed)))
 
 -- A line that is malformed.
 abbrev pub malformed : Read
@@ -72,30 +91,16 @@ malformed = record { line = Malformed; next = 0 }
 
 -- A line of n bytes that an LF must end.
 abbrev pub closed : List ℕ → ℕ → Line → Read
-closed xs n l = cond (eqb (getD xs n 0) 10) (record { line = l; next = n + 1 }) malformed
+closed xs n l = cond (eqb (getD xs n 0) lf) (record { line = l; next = n + 1 }) malformed
 
--- A line of three fields behind its letter.
-abbrev pub short : List ℕ → (ℕ → ℕ → ℕ → Line) → Triple → Read
-short xs make (Values a b c n) = closed xs (1 + n) (make a b c)
-short xs make BadTriple = malformed
+-- The line with these fields behind its letter.
+abbrev pub withFields : List ℕ → Fields → Read
+withFields xs (Values ns n) = closed xs (1 + n) (lineOf (getD xs 0 0) ns)
+withFields xs BadFields = malformed
 
--- An M line's last three fields, behind its letter and the first three in n bytes.
-abbrev pub long : List ℕ → ℕ → ℕ → ℕ → ℕ → Triple → Read
-long xs a b c n (Values d e f k) = closed xs (n + k) (M a b c d e f)
-long xs a b c n BadTriple = malformed
-
--- An M line's first three fields, behind its letter.
-abbrev pub header : List ℕ → Triple → Read
-header xs (Values a b c n) = long xs a b c (1 + n) (triple (drop (1 + n) xs))
-header xs BadTriple = malformed
-
--- The line that a text begins with: its letter M, G, R or W, its fields, and an LF.
+-- The line that a text begins with: its letter, as many fields as the letter has, and an LF.
 unfoldable pub readLine : List ℕ → Read
-readLine xs =
-    cond (eqb (getD xs 0 0) 77) (header xs (triple (drop 1 xs)))
-    (cond (eqb (getD xs 0 0) 71) (short xs G (triple (drop 1 xs)))
-    (cond (eqb (getD xs 0 0) 82) (short xs R (triple (drop 1 xs)))
-    (cond (eqb (getD xs 0 0) 87) (short xs W (triple (drop 1 xs))) malformed)))
+readLine xs = withFields xs (readFields (fieldCount (getD xs 0 0)) (drop 1 xs))
 
 -- ---- the lines
 

@@ -1,4 +1,15 @@
-// What reading a text finds: a number, three numbers, a line.
+// The text format: its letters, and what reading a text finds: a number, fields, a line.
+
+// What stands between the fields of a line, and behind its last one.
+pub const COMMA: u8 = b',';
+
+pub const LF: u8 = b'\n';
+
+// No line has more fields.
+pub const MOST_FIELDS: usize = 6;
+
+// No number that is read has more digits.
+pub const MOST_DIGITS: usize = 10;
 
 // A number in the text and how many bytes its field takes, the comma before it included.
 pub enum Number {
@@ -6,9 +17,9 @@ pub enum Number {
     Bad,
 }
 
-// Three numbers in a row and how many bytes their fields take.
-pub enum Triple {
-    Values(u64, u64, u64, usize),
+// How many bytes some fields in a row take. Their numbers stand beside it, since no enum holds an array.
+pub enum Span {
+    Bytes(usize),
     Bad,
 }
 

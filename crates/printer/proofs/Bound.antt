@@ -15,13 +15,12 @@ use Rattle.model.specs.declared.Call.{Call}
 use Rattle.model.specs.declared.Call.the-variants.{Empty, Gate, Upcall}
 use Rattle.model.specs.Record.{Bank, State, machineOf}
 use Rattle.model.specs.WellFormed.{endInRange, wellFormed}
-use Rattle.model.specs.Listing.{decimal, line, callLine, differs, entryLine, entryLines, listing}
+use Rattle.model.specs.Listing.{decimal, line, endFields, callLine, isListed, entryLine, entryLines, listing}
 use Rattle.model.proofs.Truth.{and-iff, choice}
 use Rattle.model.proofs.Ready.{Fit, CallsFit, none, gate, upcall, both, fit}
 use Rattle.writer.proofs.Decimal.{digits-below}
 use Rattle.writer.proofs.Fields.{three-fields, five-fields, six-fields}
-use Rattle.printer.specs.Printing.{endFields}
-use Rattle.printer.proofs.Lines.{cond-most, head-length, listing-length}
+use Rattle.printer.proofs.Lines.{cond-most, head-length, entryAt, listing-length}
 
 -- ---- what the types of the code say
 
@@ -110,12 +109,12 @@ calls-bound (both {k} {j} {e} {q} {r} v h) t u =
 
 -- An entry whose number has at most so many digits.
 entry-bound : (letter : ℕ) (b : Bank) (w n k : ℕ) → BankInTypes n b → k < n → length (decimal k) ≤ w
-    → length (entryLine letter b k) ≤ 18 + w
+    → length (entryAt letter b k) ≤ 18 + w
 unfolding entryLine
 entry-bound letter b w n k t i h =
     omega (
       arith,
-      cond-most (differs b k) (line letter (k ∷ getD (b .labels) k 0 ∷ getD (b .values) k 0 ∷ [])),
+      cond-most (isListed (getD (b .labels) k 0) (getD (b .values) k 0)) (line letter (k ∷ getD (b .labels) k 0 ∷ getD (b .values) k 0 ∷ [])),
       three-fields letter k (getD (b .labels) k 0) (getD (b .values) k 0),
       digits-below 2 (getD (b .labels) k 0) (omega (arith, t .labels k i)),
       digits-below 9 (getD (b .values) k 0) (omega (arith, t .values k i)),

@@ -1,3 +1,4 @@
+pub mod Places
 pub mod Answers
 pub mod Lines
 pub mod Bound

@@ -1,4 +1,4 @@
--- The lines of a listing, as its code counts and writes them: the E and F lines, and the lines of entries one by one.
+-- The lines of a listing, as its code writes them: the E and F lines, and the lines of entries one by one.
 -- Assumes nothing.
 use Prim.Native.Nat.{ℕ, zero, suc, _+_, _-_, _*_, _<_, _≤_}
 use mathlib.Core.Path.{_≡_, refl, ap, _∙_}
@@ -11,12 +11,8 @@ use Rattle.model.specs.declared.Control.{Control}
 use Rattle.model.specs.declared.Call.{Call}
 use Rattle.model.specs.declared.Call.the-variants.{Empty, Gate, Upcall}
 use Rattle.model.specs.Record.{Bank, State}
-use Rattle.model.specs.Listing.{line, endLine, callLine, differs, entryLine, entryLines, listing}
-use Rattle.writer.specs.Writing.{Wrote, answer, writing}
+use Rattle.model.specs.Listing.{line, endFields, callLine, headLines, isListed, entryLine, entryLines, listing}
 use Rattle.writer.proofs.Fields.{line-most}
-use Rattle.writer.proofs.Over.{rest, room-behind}
-use Rattle.writer.proofs.Answer.{line-wrote}
-use Rattle.printer.specs.Printing.{endFields, headLines, isListed, entryText}
 
 -- ---- the E line and the F lines
 
@@ -38,36 +34,17 @@ head-most c =
     rw (head-length c)
     (omega (arith, line-most 69 (endFields c), call-most (c .first), call-most (c .second)))
 
--- What is written of them: the E line, and the first F line behind it.
-module _ (c : Control) (out : List ℕ) (fits : length (headLines c) ≤ length out) where
-  pub end-wrote : {after ns : List ℕ} {n : ℕ} → answer n after ≡ writing 69 ns out → ns ≡ endFields c
-      → Wrote (line 69 (endFields c)) out n after
-  end-wrote e f =
-      line-wrote 69 (endFields c) (omega arith) (omega (arith, head-length c))
-      (e ∙ ap (λ (ns : List ℕ). writing 69 ns out) f)
-
-  pub first-room : {after : List ℕ} {n : ℕ} → Wrote (line 69 (endFields c)) out n after
-      → length (callLine (c .first)) ≤ length (rest n after)
-  first-room w =
-      room-behind (callLine (c .first)) w
-      (simp length-append (omega (arith, head-length c)))
-
-  pub second-room : {after : List ℕ} {n : ℕ} → Wrote (line 69 (endFields c) ++ callLine (c .first)) out n after
-      → length (callLine (c .second)) ≤ length (rest n after)
-  unfolding headLines
-  second-room w = room-behind (callLine (c .second)) w fits
-
 -- ---- an entry
 
 -- An entry that differs has its line.
 pub entry-listed : (letter k label value : ℕ) → isListed label value ≡ true
-    → entryText letter k label value ≡ line letter (k ∷ label ∷ value ∷ [])
-unfolding entryText
+    → entryLine letter k label value ≡ line letter (k ∷ label ∷ value ∷ [])
+unfolding entryLine
 entry-listed letter k label value e = rw e
 
 -- Any other has none.
-pub entry-unlisted : (letter k label value : ℕ) → isListed label value ≡ false → entryText letter k label value ≡ []
-unfolding entryText
+pub entry-unlisted : (letter k label value : ℕ) → isListed label value ≡ false → entryLine letter k label value ≡ []
+unfolding entryLine
 entry-unlisted letter k label value e = rw e
 
 -- A line or nothing is no longer than the line.
@@ -75,15 +52,9 @@ pub cond-most : (t : Bool) (xs : List ℕ) → length (cond t xs []) ≤ length 
 cond-most true xs = omega arith
 cond-most false xs = omega arith
 
--- A line or nothing is as long with another letter.
-cond-letter : (t : Bool) (a b : ℕ) (ns : List ℕ) → length (cond t (line a ns) []) ≡ length (cond t (line b ns) [])
-unfolding line
-cond-letter true a b ns = refl
-cond-letter false a b ns = refl
-
 -- An entry takes at most a letter, three fields and an LF.
-pub entry-most : (letter k label value : ℕ) → length (entryText letter k label value) ≤ 65
-unfolding entryText
+pub entry-most : (letter k label value : ℕ) → length (entryLine letter k label value) ≤ 65
+unfolding entryLine
 entry-most letter k label value =
     omega (
       arith,
@@ -95,11 +66,7 @@ entry-most letter k label value =
 
 -- The entry k of a bank.
 abbrev pub entryAt : ℕ → Bank → ℕ → List ℕ
-entryAt letter b k = entryText letter k (getD (b .labels) k 0) (getD (b .values) k 0)
-
-pub entry-at : (letter : ℕ) (b : Bank) (k : ℕ) → entryLine letter b k ≡ entryAt letter b k
-unfolding entryLine differs entryText isListed
-entry-at letter b k = refl
+entryAt letter b k = entryLine letter k (getD (b .labels) k 0) (getD (b .values) k 0)
 
 -- The lines of m entries, and those of n entries behind them.
 entries-split : (letter : ℕ) (b : Bank) (j m n : ℕ)
@@ -114,84 +81,22 @@ entries-split letter b j (suc m) n =
 pub entries-more : (letter : ℕ) (b : Bank) (k : ℕ)
     → entryLines letter b 0 (k + 1) ≡ entryLines letter b 0 k ++ entryAt letter b k
 unfolding entryLines
-entries-more letter b k = rw (entries-split letter b 0 k 1, zero-add, append-nil, entry-at)
-
--- There is room for one entry more.
-pub entry-room : (letter : ℕ) (b : Bank) (k n : ℕ) → k < n
-    → length (entryLines letter b 0 k) + length (entryAt letter b k) ≤ length (entryLines letter b 0 n)
-entry-room letter b k n h =
-    let e : (k + 1) + (n - (k + 1)) ≡ n = omega arith in
-    let s = simp length-append at (ap length (entries-split letter b 0 (k + 1) (n - (k + 1)))) in
-    let f = ap (λ (i : ℕ). length (entryLines letter b 0 i)) e in
-    let m = simp length-append at (ap length (entries-more letter b k)) in
-    omega arith
-
--- The length with one entry more.
-pub length-more : (letter : ℕ) (b : Bank) (k sum count : ℕ) → sum ≡ length (entryLines letter b 0 k)
-    → count ≡ length (entryAt letter b k) → sum + count ≡ length (entryLines letter b 0 (k + 1))
-length-more letter b k sum count e f = rw (entries-more letter b k) (simp length-append (omega arith))
+entries-more letter b k = rw (entries-split letter b 0 k 1, zero-add, append-nil)
 
 -- n entries take at most 65 bytes each.
 pub entries-most : (letter : ℕ) (b : Bank) (j n : ℕ) → length (entryLines letter b j n) ≤ 65 * n
 unfolding entryLines
 entries-most letter b j zero = omega arith
 entries-most letter b j (suc n) =
-    let e = ap length (entry-at letter b j) in
     simp length-append
     (omega (arith, entries-most letter b (j + 1) n, entry-most letter j (getD (b .labels) j 0) (getD (b .values) j 0)))
 
--- The length does not depend on the letter.
-pub entries-letter : (x y : ℕ) (b : Bank) (j n : ℕ) → length (entryLines x b j n) ≡ length (entryLines y b j n)
-unfolding entryLines entryLine
-entries-letter x y b j zero = refl
-entries-letter x y b j (suc n) =
-    let e = cond-letter (differs b j) x y (j ∷ getD (b .labels) j 0 ∷ getD (b .values) j 0 ∷ []) in
-    simp length-append (omega (arith, entries-letter x y b (j + 1) n))
-
 -- ---- the whole
 
--- A listing is its E and F lines, the R lines and the W lines.
-pub listing-parts : (s : State)
-    → listing s ≡ (headLines (s .control) ++ entryLines 82 (s .registers) 0 16)
-    ++ entryLines 87 (s .memory) 0 (s .fixed .size)
-unfolding listing headLines endLine
-listing-parts s = simp append-assoc
-
--- Its length.
+-- The length of a listing.
 pub listing-length : (s : State)
     → length (listing s)
     ≡ length (headLines (s .control)) + length (entryLines 82 (s .registers) 0 16)
     + length (entryLines 87 (s .memory) 0 (s .fixed .size))
-listing-length s = rw (listing-parts s) (simp length-append)
-
--- The length counted part by part.
-pub listing-counted : (s : State) (head registers memory : ℕ) → head ≡ length (headLines (s .control))
-    → registers ≡ length (entryLines 0 (s .registers) 0 16) → memory ≡ length (entryLines 0 (s .memory) 0 (s .fixed .size))
-    → head + registers + memory ≡ length (listing s)
-listing-counted s head registers memory e f g =
-    let i = entries-letter 0 82 (s .registers) 0 16 in
-    let j = entries-letter 0 87 (s .memory) 0 (s .fixed .size) in
-    rw (listing-length s) (omega arith)
-
--- What is written of it, part by part.
-module _ (s : State) (out : List ℕ) (fits : length (listing s) ≤ length out) where
-  pub head-room : length (headLines (s .control)) ≤ length out
-  head-room = omega (arith, listing-length s)
-
-  pub registers-room : {after : List ℕ} {n : ℕ} → Wrote (headLines (s .control)) out n after
-      → length (entryLines 82 (s .registers) 0 16) ≤ length (rest n after)
-  registers-room w =
-      room-behind (entryLines 82 (s .registers) 0 16) w
-      (simp length-append (omega (arith, listing-length s)))
-
-  pub memory-room : {after : List ℕ} {n : ℕ}
-      → Wrote (headLines (s .control) ++ entryLines 82 (s .registers) 0 16) out n after
-      → length (entryLines 87 (s .memory) 0 (s .fixed .size)) ≤ length (rest n after)
-  memory-room w = room-behind (entryLines 87 (s .memory) 0 (s .fixed .size)) w (rw (listing-parts s) at fits)
-
--- The parts are the listing.
-pub listing-wrote : (s : State) {out after : List ℕ} {n : ℕ}
-    → Wrote ((headLines (s .control) ++ entryLines 82 (s .registers) 0 16) ++ entryLines 87 (s .memory) 0 (s .fixed .size))
-    out n after
-    → Wrote (listing s) out n after
-listing-wrote s w = rw (listing-parts s) w
+unfolding listing
+listing-length s = simp length-append

@@ -1,17 +1,15 @@
--- What print answers, in the model's terms, and the lines of which its code writes a listing.
+-- What print answers, in the model's terms, and how its code writes a listing.
 -- Assumes nothing.
-use Prim.Native.Nat.{ℕ, _≤_}
-use mathlib.Core.Bool.{Bool, not, _&&_, cond}
-use mathlib.Core.List.{List, [], _∷_, _++_}
-use lib.Dec.{leb, eqb}
-use lib.ListN.{length}
-use Rattle.labels.specs.Label.{lowest}
+use Prim.Native.Nat.{ℕ, _+_, _≤_}
+use mathlib.Core.Path.{_≡_}
+use mathlib.Core.List.{List, _++_}
+use lib.Dec.{leb}
+use lib.ListN.{length, take, drop}
 use Rattle.causes.specs.declared.Cause.the-variants.{ShortOutput}
 use Rattle.causes.specs.Tests.{unless}
-use Rattle.model.specs.declared.Control.{Control}
-use Rattle.model.specs.declared.Pair.{Pair}
 use Rattle.model.specs.Record.{Bank, Machine, State, stateOf}
-use Rattle.model.specs.Listing.{line, callLine, listing, Printing, notPrinted, printed}
+use Rattle.model.specs.Listing.{listing, Printing, notPrinted, printed}
+use Rattle.writer.specs.Writing.{Wrote}
 use Rattle.machine.specs.declared.Machine as struct
 use Rattle.machine.specs.Answered.{recordOf}
 use Rattle.printer.specs.declared.Printed.{Printed}
@@ -40,24 +38,17 @@ pub record Entries (values labels : List ℕ) (count : ℕ) : Type 0 where
   pub labelled : count ≤ length labels
   pub most : count ≤ 2048
 
--- ---- the lines
+-- ---- what the writing functions promise
 
--- The fields of the E line.
-abbrev pub endFields : Control → List ℕ
-endFields c = c .end ∷ c .why ∷ c .clock ∷ c .pc ∷ c .pair .pc ∷ c .pair .timing ∷ []
+-- No listing is so long: where a line begins at the most.
+abbrev pub longest : ℕ
+longest = 1048576
 
--- The fields of an F line.
-abbrev pub callFields : ℕ → ℕ → Pair → ℕ → List ℕ
-callFields kind back q tick = kind ∷ back ∷ q .pc ∷ q .timing ∷ tick ∷ []
+-- No R or W line is longer.
+abbrev pub longestEntry : ℕ
+longestEntry = 65
 
--- The E line and the F lines.
-unfoldable pub headLines : Control → List ℕ
-headLines c = (line 69 (endFields c) ++ callLine (c .first)) ++ callLine (c .second)
-
--- An entry with this label and value has a line.
-unfoldable pub isListed : ℕ → ℕ → Bool
-isListed label value = not (eqb value 0 && eqb label lowest)
-
--- The R or W line of the entry k with this label and value, or nothing.
-unfoldable pub entryText : ℕ → ℕ → ℕ → ℕ → List ℕ
-entryText letter k label value = cond (isListed label value) (line letter (k ∷ label ∷ value ∷ [])) []
+-- The text is put into an output behind its first `at` bytes, where it fits. Where it ends is given whether it fits or not.
+pub record Placed (text before : List ℕ) (at given : ℕ) (after : List ℕ) : Type 0 where
+  pub place : given ≡ at + length text
+  pub output : given ≤ length before → Wrote (take at before ++ text) before given after

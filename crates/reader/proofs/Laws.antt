@@ -1,27 +1,28 @@
 -- Laws of the definitions of a text: a part of it as a list, digits read one by one, and how many bytes a field, three
 -- fields and a line take.
 -- Assumes nothing.
-use Prim.Native.Nat.{ℕ, suc, _+_, _-_, _*_, _^_, _≤_, _<_}
+use Prim.Native.Nat.{ℕ, zero, suc, _+_, _-_, _*_, _^_, _≤_, _<_}
 use mathlib.Core.Path.{_≡_, refl, sym, ap, _∙_, subst}
 use mathlib.Core.Logic.{⊎-elim}
 use mathlib.Core.Bool.{Bool, true, false, _&&_, cond}
-use mathlib.Core.List.{List, [], _∷_}
-use native.Mathlib.Nat.{le-refl, pow-suc, pow-le-pow-right}
+use mathlib.Core.List.{List, [], _∷_, _++_}
+use native.Mathlib.Nat.{le-refl, zero-add, suc-add, pow-suc, pow-le-pow-right}
 use native.Mathlib.Numerals.{add-one}
 use native.Mathlib.Omega.{arith}
 use borrow.Author.Tests.{ltb-true, ltb-false, lt-ltb, le-leb, lt-leb, ne-eqb, leb-true, eqb-true}
 use lib.Dec.{ltb, leb, eqb}
-use lib.ListN.{length, take, drop, getD, length-drop, drop-of-length-le, List·getD-eq-default}
-use lib.Seq.{take-all, drop-cons}
+use lib.ListN.{length, take, drop, getD, set, replicate, length-drop, length-set, drop-of-length-le, List·getD-eq-default}
+use lib.Seq.{take-all, take-suc-set, drop-cons, getD-drop}
 use Rattle.model.specs.declared.format.Number.{Number}
 use Rattle.model.specs.declared.format.Number.the-variants.{Value, Bad as BadNumber}
-use Rattle.model.specs.declared.format.Triple.{Triple}
-use Rattle.model.specs.declared.format.Triple.the-variants.{Values, Bad as BadTriple}
 use Rattle.model.specs.declared.format.Line.{Line}
-use Rattle.model.specs.declared.format.Line.the-variants.{M, G, R, W, Malformed}
+use Rattle.model.specs.declared.format.Line.the-variants.{Malformed}
 use Rattle.model.specs.declared.format.Read.{Read}
-use Rattle.model.specs.Text.{isDigit, digits, decimalFrom, wellWritten, number, field, third, second, first, triple, closed, short, long, header, malformed, readLine}
+use Rattle.model.specs.declared.format.Span.{Span}
+use Rattle.model.specs.Letters.{letterM, letterG, letterR, letterW}
+use Rattle.model.specs.Text.{isDigit, digits, decimalFrom, wellWritten, number, field, Fields, Values, BadFields, withField, nextField, readFields, fieldCount, lineOf, closed, malformed, withFields, readLine}
 use Rattle.model.proofs.Truth.{choice, either, and-iff}
+use Rattle.reader.specs.Reading.{fieldsOf}
 
 -- ---- a part of a text
 
@@ -117,14 +118,18 @@ scan-more xs v n d b q s =
       valued = s .valued ∙ rw (more, q);
     }
 
--- Where the reading stops in time, all digits are read.
-scan-end : (xs : List ℕ) (v n : ℕ) → Scanned xs v n → (ltb n 11 && isDigit (getD xs n 0)) ≡ false → n ≤ 10
-    → (length (digits xs) ≡ n) × (decimalFrom 0 (digits xs) ≡ v)
+-- The test of a digit failed, behind n digits.
+pub record Ended (xs : List ℕ) (v n : ℕ) : Type 0 where
+  pub scanned : Scanned xs v n
+  pub stopped : (ltb n 11 && isDigit (getD xs n 0)) ≡ false
+
+-- Where the reading ended in time, all digits are read.
+scan-end : (xs : List ℕ) (v n : ℕ) → Ended xs v n → n ≤ 10 → (length (digits xs) ≡ n) × (decimalFrom 0 (digits xs) ≡ v)
 unfolding decimalFrom
-scan-end xs v n s e few =
+scan-end xs v n s few =
     let t : ltb n 11 ≡ true = lt-ltb n 11 (omega arith) in
-    let none : digits (drop n xs) ≡ [] = digits-end xs n (rw t at e) in
-    ((s .counted ∙ rw none (omega arith)), s .valued ∙ rw none)
+    let none : digits (drop n xs) ≡ [] = digits-end xs n (rw t at (s .stopped)) in
+    ((s .scanned .counted ∙ rw none (omega arith)), s .scanned .valued ∙ rw none)
 
 -- The first of the digits, where there is one.
 first-of : (t : Bool) (b : ℕ) (ds : List ℕ) → 0 < length (cond t (b ∷ ds) []) → getD (cond t (b ∷ ds) []) 0 48 ≡ b
@@ -139,47 +144,46 @@ first-digit (b ∷ xs) h = first-of (isDigit b) b (digits xs) h
 
 -- ---- a number from the digits read
 
-module _ (xs : List ℕ) (v n : ℕ) (s : Scanned xs v n) (t : Bool) (r : t ≡ (ltb n 11 && isDigit (getD xs n 0))) where
+module _ {xs : List ℕ} {v n : ℕ} (s : Ended xs v n) where
   -- No digit.
-  pub number-none : t ≡ false → n ≡ 0 → number xs ≡ BadNumber
+  pub number-none : n ≡ 0 → BadNumber ≡ number xs
   unfolding number wellWritten
-  number-none e z =
-      let l : length (digits xs) ≡ n = scan-end xs v n s (sym r ∙ e) (omega arith) .0 in
+  number-none z =
+      let l : length (digits xs) ≡ n = scan-end xs v n s (omega arith) .0 in
       let f : leb 1 (length (digits xs)) ≡ false = lt-leb 1 (length (digits xs)) (omega arith) in
       rw f
 
   -- Too many digits.
-  pub number-long : 10 < n → number xs ≡ BadNumber
+  pub number-long : 10 < n → BadNumber ≡ number xs
   unfolding number wellWritten
   number-long h =
-      let m : leb 1 (length (digits xs)) ≡ true = le-leb 1 (length (digits xs)) (omega (arith, s .counted)) in
-      let f : leb (length (digits xs)) 10 ≡ false = lt-leb (length (digits xs)) 10 (omega (arith, s .counted)) in
+      let m : leb 1 (length (digits xs)) ≡ true = le-leb 1 (length (digits xs)) (omega (arith, s .scanned .counted)) in
+      let f : leb (length (digits xs)) 10 ≡ false = lt-leb (length (digits xs)) 10 (omega (arith, s .scanned .counted)) in
       rw (m, f)
 
   -- One digit.
-  pub number-one : t ≡ false → n ≡ 1 → number xs ≡ Value v (n + 1)
+  pub number-one : n ≡ 1 → Value v (n + 1) ≡ number xs
   unfolding number wellWritten
-  number-one e z =
-      let all : (length (digits xs) ≡ n) × (decimalFrom 0 (digits xs) ≡ v) = scan-end xs v n s (sym r ∙ e) (omega arith) in
+  number-one z =
+      let all : (length (digits xs) ≡ n) × (decimalFrom 0 (digits xs) ≡ v) = scan-end xs v n s (omega arith) in
       rw (all .0, all .1, z)
 
-  -- Several digits, the first of which is 0.
-  pub number-led : t ≡ false → n ≤ 10 → 0 < n → (n ≡ 1 → ⊥) → getD xs 0 0 ≡ 48
-      → number xs ≡ BadNumber
-  unfolding number wellWritten
-  number-led e h p q z =
-      let l : length (digits xs) ≡ n = scan-end xs v n s (sym r ∙ e) h .0 in
-      let d : getD (digits xs) 0 48 ≡ 48 = first-digit xs (omega arith) ∙ z in
-      rw (l, le-leb 1 n p, le-leb n 10 h, ne-eqb n 1 q, d)
+  module _ (h : n ≤ 10) (p : 0 < n) (q : n ≡ 1 → ⊥) where
+    -- Several digits, the first of which is 0.
+    pub number-led : getD xs 0 0 ≡ 48 → BadNumber ≡ number xs
+    unfolding number wellWritten
+    number-led z =
+        let l : length (digits xs) ≡ n = scan-end xs v n s h .0 in
+        let d : getD (digits xs) 0 48 ≡ 48 = first-digit xs (omega arith) ∙ z in
+        rw (l, le-leb 1 n p, le-leb n 10 h, ne-eqb n 1 q, d)
 
-  -- Several digits, the first of which is not 0.
-  pub number-good : t ≡ false → n ≤ 10 → 0 < n → (n ≡ 1 → ⊥) → (getD xs 0 0 ≡ 48 → ⊥)
-      → number xs ≡ Value v (n + 1)
-  unfolding number wellWritten
-  number-good e h p q z =
-      let all : (length (digits xs) ≡ n) × (decimalFrom 0 (digits xs) ≡ v) = scan-end xs v n s (sym r ∙ e) h in
-      let d : getD (digits xs) 0 48 ≡ getD xs 0 0 = first-digit xs (omega arith) in
-      rw (all .0, all .1, d, le-leb 1 n p, le-leb n 10 h, ne-eqb n 1 q, ne-eqb _ 48 z)
+    -- Several digits, the first of which is not 0.
+    pub number-good : (getD xs 0 0 ≡ 48 → ⊥) → Value v (n + 1) ≡ number xs
+    unfolding number wellWritten
+    number-good z =
+        let all : (length (digits xs) ≡ n) × (decimalFrom 0 (digits xs) ≡ v) = scan-end xs v n s h in
+        let d : getD (digits xs) 0 48 ≡ getD xs 0 0 = first-digit xs (omega arith) in
+        rw (all .0, all .1, d, le-leb 1 n p, le-leb n 10 h, ne-eqb n 1 q, ne-eqb _ 48 z)
 
 -- ---- a field
 
@@ -194,22 +198,12 @@ pub field-of-part : (xs : List ℕ) (n : ℕ) (r q : Number) → r ≡ field (ta
     → field (drop n xs) ≡ q
 field-of-part xs n r q e f = ap field (sym (part n xs)) ∙ sym e ∙ f
 
--- Three fields of a part of the text.
-pub triple-of-part : (xs : List ℕ) (n : ℕ) (r q : Triple) → r ≡ triple (take (length xs - n) (drop n xs)) → r ≡ q
-    → triple (drop n xs) ≡ q
-triple-of-part xs n r q e f = ap triple (sym (part n xs)) ∙ sym e ∙ f
-
 -- ---- how many bytes are read
 
 -- The bytes of a number's field.
 abbrev numberSize : Number → ℕ
 numberSize (Value v n) = n
 numberSize BadNumber = 0
-
--- The bytes of three fields.
-abbrev tripleSize : Triple → ℕ
-tripleSize (Values a b c n) = n
-tripleSize BadTriple = 0
 
 -- There are no more digits than bytes.
 digits-length : (xs : List ℕ) → length (digits xs) ≤ length xs
@@ -247,51 +241,108 @@ field-within xs v n e = subst (λ (r : Number). numberSize r ≤ length xs) e (f
 pub field-behind : (xs : List ℕ) (n v k : ℕ) → n ≤ length xs → field (drop n xs) ≡ Value v k → n + k ≤ length xs
 field-behind xs n v k h e = omega (arith, field-within (drop n xs) v k e, length-drop n xs)
 
--- Three fields take no more bytes than there are: the third, the second, the first.
-third-size : (xs : List ℕ) (a b n : ℕ) → n ≤ length xs → (r : Number) → numberSize r ≤ length (drop n xs)
-    → tripleSize (third a b n r) ≤ length xs
-third-size xs a b n h (Value c k) g = omega (arith, length-drop n xs)
-third-size xs a b n h BadNumber g = omega arith
+-- ---- fields, one by one
 
-second-size : (xs : List ℕ) (a n : ℕ) → n ≤ length xs → (r : Number) → numberSize r ≤ length (drop n xs)
-    → tripleSize (second xs a n r) ≤ length xs
-second-size xs a n h (Value b k) g =
-    third-size xs a b (n + k) (omega (arith, length-drop n xs)) (field (drop (n + k) xs)) (field-size (drop (n + k) xs))
-second-size xs a n h BadNumber g = omega arith
+-- Of a text i fields are read, in `at` bytes: their numbers are the first i of ns.
+pub record FieldsRead (xs ns : List ℕ) (at i : ℕ) : Type 0 where
+  pub few : i ≤ length ns
+  pub within : at ≤ length xs
+  pub read : readFields i xs ≡ Values (take i ns) at
 
-first-size : (xs : List ℕ) (r : Number) → numberSize r ≤ length xs → tripleSize (first xs r) ≤ length xs
-first-size xs (Value a n) g = second-size xs a n g (field (drop n xs)) (field-size (drop n xs))
-first-size xs BadNumber g = omega arith
+-- None is read.
+pub fields-none : (xs ns : List ℕ) → FieldsRead xs ns 0 0
+unfolding readFields
+fields-none xs ns = record { few = omega arith; within = omega arith; read = refl }
 
--- Three fields behind n bytes take no more than are left.
-pub triple-behind : (xs : List ℕ) (n a b c k : ℕ) → n ≤ length xs → triple (drop n xs) ≡ Values a b c k → n + k ≤ length xs
-unfolding triple
-triple-behind xs n a b c k h e =
-    let s : tripleSize (triple (drop n xs)) ≤ length (drop n xs) =
-    first-size (drop n xs) (field (drop n xs)) (field-size (drop n xs)) in
-    let t : k ≤ length (drop n xs) = subst (λ (r : Triple). tripleSize r ≤ length (drop n xs)) e s in
-    omega (arith, length-drop n xs)
+module _ (xs ns : List ℕ) (at i : ℕ) (r : FieldsRead xs ns at i) where
+  -- One more is read.
+  pub fields-more : (v k : ℕ) → i < length ns → field (drop at xs) ≡ Value v k → FieldsRead xs (set ns i v) (at + k) (i + 1)
+  unfolding readFields
+  fields-more v k h e =
+      record {
+        few = simp length-set (omega arith);
+        within = field-behind xs at v k (r .within) e;
+        read = rw (add-one, r .read, e, take-suc-set ns i v h);
+      }
+
+  -- The next one is bad, and so are any that reach so far.
+  bad-behind : (n : ℕ) → field (drop at xs) ≡ BadNumber → readFields (suc n + i) xs ≡ BadFields
+  unfolding readFields
+  bad-behind zero e = rw (suc-add, zero-add, r .read, e)
+  bad-behind (suc n) e = rw (suc-add (suc n) i, bad-behind n e)
+
+  pub fields-bad : (n : ℕ) → i < n → field (drop at xs) ≡ BadNumber → readFields n xs ≡ BadFields
+  fields-bad n h e = let q : suc (n - suc i) + i ≡ n = omega arith in rw q at (bad-behind (n - suc i) e)
+
+-- The bytes of fields are no more than there are.
+abbrev fieldsSize : Fields → ℕ
+fieldsSize (Values ns n) = n
+fieldsSize BadFields = 0
+
+with-size : (xs ns : List ℕ) (n : ℕ) (r : Number) → n ≤ length xs → numberSize r ≤ length (drop n xs)
+    → fieldsSize (withField ns n r) ≤ length xs
+with-size xs ns n (Value v k) h g = omega (arith, length-drop n xs)
+with-size xs ns n BadNumber h g = omega arith
+
+next-size : (xs : List ℕ) (r : Fields) → fieldsSize r ≤ length xs → fieldsSize (nextField xs r) ≤ length xs
+next-size xs (Values ns n) h = with-size xs ns n (field (drop n xs)) h (field-size (drop n xs))
+next-size xs BadFields h = omega arith
+
+fields-size : (k : ℕ) (xs : List ℕ) → fieldsSize (readFields k xs) ≤ length xs
+unfolding readFields
+fields-size zero xs = omega arith
+fields-size (suc k) xs = next-size xs (readFields k xs) (fields-size k xs)
+
+pub fields-within : (k : ℕ) (xs ns : List ℕ) (n : ℕ) → readFields k xs ≡ Values ns n → n ≤ length xs
+fields-within k xs ns n e = subst (λ (r : Fields). fieldsSize r ≤ length xs) e (fields-size k xs)
 
 -- ---- a line
 
--- Where the first three fields are bad, the line is malformed, whatever its letter.
-pub line-bad : (xs : List ℕ) → triple (drop 1 xs) ≡ BadTriple → malformed ≡ readLine xs
-unfolding readLine
-line-bad xs e =
-    rw e
-    (choice (λ (r : Read). malformed ≡ r) (eqb (getD xs 0 0) 77) _ _ (λ t. refl)
-    (λ t.
-    choice (λ (r : Read). malformed ≡ r) (eqb (getD xs 0 0) 71) _ _ (λ t. refl)
-    (λ t.
-    choice (λ (r : Read). malformed ≡ r) (eqb (getD xs 0 0) 82) _ _ (λ t. refl)
-    (λ t. choice (λ (r : Read). malformed ≡ r) (eqb (getD xs 0 0) 87) _ _ (λ t. refl) (λ t. refl)))))
+-- No line has more than six fields.
+pub count-most : (letter : ℕ) → fieldCount letter ≤ 6
+unfolding fieldCount
+count-most letter =
+    choice (λ (n : ℕ). n ≤ 6) (eqb letter letterM) _ _ (λ e. omega arith)
+    (λ e.
+    choice (λ (n : ℕ). n ≤ 6) (eqb letter letterG) _ _ (λ e. omega arith)
+    (λ e.
+    choice (λ (n : ℕ). n ≤ 6) (eqb letter letterR) _ _ (λ e. omega arith)
+    (λ e. choice (λ (n : ℕ). n ≤ 6) (eqb letter letterW) _ _ (λ e. omega arith) (λ e. omega arith))))
+
+-- The fields behind the letter, read into as many places as it has.
+pub fields-behind : (xs ns : List ℕ) (r : Span) {places count : ℕ} → count ≡ fieldCount (getD xs 0 0) → places ≡ count
+    → fieldsOf r ns ≡ readFields places (take (length xs - 1) (drop 1 xs))
+    → readFields (fieldCount (getD xs 0 0)) (drop 1 xs) ≡ fieldsOf r ns
+fields-behind xs ns r e l f = sym (rw (part 1 xs, l, e) at f)
+
+-- Zeros behind the numbers, in the places that the letter doesn't have, make no difference.
+zeros : (n i : ℕ) → getD {A = ℕ} (replicate n 0) i 0 ≡ 0
+zeros zero i = refl
+zeros (suc n) zero = refl
+zeros (suc n) (suc i) = zeros n i
+
+zeros-behind : (ns zs : List ℕ) → ((i : ℕ) → getD zs i 0 ≡ 0) → (i : ℕ) → getD (ns ++ zs) i 0 ≡ getD ns i 0
+zeros-behind [] zs z i = z i
+zeros-behind (n ∷ ns) zs z zero = refl
+zeros-behind (n ∷ ns) zs z (suc i) = zeros-behind ns zs z i
+
+pub line-in-front : (letter : ℕ) (ns : List ℕ) (k n : ℕ) → lineOf letter (ns ++ drop k (replicate n 0)) ≡ lineOf letter ns
+unfolding lineOf
+line-in-front letter ns k n =
+    simp (zeros-behind ns (drop k (replicate n 0)) (λ i. getD-drop k (replicate n 0) i 0 ∙ zeros n (k + i)))
+
+-- A text without a byte has no line.
+pub no-line : (xs : List ℕ) → length xs ≤ 0 → malformed ≡ readLine xs
+unfolding readLine fieldCount readFields lineOf
+no-line [] h = refl
+no-line (b ∷ xs) h = absurd (omega arith)
 
 -- What was read lies in the text, and takes a byte at least unless it is malformed.
 pub record Sized (xs : List ℕ) (r : Read) : Type 0 where
   pub within : r .next ≤ length xs
   pub moves : (r .line ≡ Malformed → ⊥) → 1 ≤ r .next
 
--- A malformed line, one that is closed, and the lines of each letter.
+-- A malformed line, one that is closed, and one with its fields.
 sized-malformed : (xs : List ℕ) → Sized xs malformed
 sized-malformed xs = record { within = omega arith; moves = λ h. absurd (h refl) }
 
@@ -305,28 +356,11 @@ sized-closed xs n l =
     })
     (λ e. sized-malformed xs)
 
-sized-short : (xs : List ℕ) (make : ℕ → ℕ → ℕ → Line) (r : Triple) → Sized xs (short xs make r)
-sized-short xs make (Values a b c n) = sized-closed xs (1 + n) (make a b c)
-sized-short xs make BadTriple = sized-malformed xs
-
-sized-long : (xs : List ℕ) (a b c n : ℕ) (r : Triple) → Sized xs (long xs a b c n r)
-sized-long xs a b c n (Values d e f k) = sized-closed xs (n + k) (M a b c d e f)
-sized-long xs a b c n BadTriple = sized-malformed xs
-
-sized-header : (xs : List ℕ) (r : Triple) → Sized xs (header xs r)
-sized-header xs (Values a b c n) = sized-long xs a b c (1 + n) (triple (drop (1 + n) xs))
-sized-header xs BadTriple = sized-malformed xs
+sized-fields : (xs : List ℕ) (r : Fields) → Sized xs (withFields xs r)
+sized-fields xs (Values ns n) = sized-closed xs (1 + n) (lineOf (getD xs 0 0) ns)
+sized-fields xs BadFields = sized-malformed xs
 
 -- Every line that is read.
 pub sized : (xs : List ℕ) → Sized xs (readLine xs)
 unfolding readLine
-sized xs =
-    let t = triple (drop 1 xs) in
-    choice (Sized xs) (eqb (getD xs 0 0) 77) _ _ (λ e. sized-header xs t)
-    (λ e.
-    choice (Sized xs) (eqb (getD xs 0 0) 71) _ _ (λ e. sized-short xs G t)
-    (λ e.
-    choice (Sized xs) (eqb (getD xs 0 0) 82) _ _ (λ e. sized-short xs R t)
-    (λ e.
-    choice (Sized xs) (eqb (getD xs 0 0) 87) _ _ (λ e. sized-short xs W t)
-    (λ e. sized-malformed xs))))
+sized xs = sized-fields xs (readFields (fieldCount (getD xs 0 0)) (drop 1 xs))

@@ -1,18 +1,21 @@
-// Reading a text: the number, the field, the three fields and the line that it begins with. Each reader is lent the text
+// Reading a text: the number, the field, some fields in a row and the line that it begins with. Each reader is lent the text
 // from its own start on, and answers how many bytes it has read.
+use model::format::COMMA;
+use model::format::LF;
 use model::format::Line;
+use model::format::MOST_DIGITS;
+use model::format::MOST_FIELDS;
 use model::format::Number;
 use model::format::Read;
-use model::format::Triple;
+use model::format::Span;
 ghost use mathlib.Core.Path.{_≡_};
 ghost use mathlib.Core.Bool.{_&&_};
-ghost use Prim.Native.Nat.{_-_, _≤_};
+ghost use Prim.Native.Nat.{_+_, _-_, _≤_};
 ghost use lib.Dec.{ltb};
-ghost use lib.ListN.{length, drop, getD};
-ghost use Rattle.model.specs.Text.{isDigit, number, field, triple, closed, long, readLine};
-
-// The most digits that a number may have.
-const DIGITS: usize = 10;
+ghost use lib.ListN.{length, getD};
+ghost use Rattle.model.specs.Letters.{digitZero, mostDigits};
+ghost use Rattle.model.specs.Text.{isDigit, number, field, readFields, fieldCount, lineOf, closed, readLine};
+ghost use Rattle.reader.specs.Reading.{fieldsOf};
 
 // A line that is malformed.
 const MALFORMED: Read = Read {
@@ -22,24 +25,24 @@ const MALFORMED: Read = Read {
 
 // Whether the byte at `at` is a digit, and no later than the one that makes a number too long.
 fn is_digit(text: &[u8], at: usize) -> bool
-    ensures { λ r. ⌜ r ≡ (ltb at 11 && isDigit (getD (now (text .entry)) at 0)) ⌝ }
+    ensures { λ r. ⌜ r ≡ (ltb at (mostDigits + 1) && isDigit (getD (now (text .entry)) at 0)) ⌝ }
 {
-    if DIGITS < at {
+    if MOST_DIGITS < at {
         return false;
     }
     if at < text.len() {
         let byte = text[at];
-        return (48 <= byte) & (byte <= 57);
+        return (b'0' <= byte) & (byte <= b'9');
     }
     false
 }
 
 // A digit's value.
 fn digit_value(byte: u8) -> u64
-    requires { ⌜ 48 ≤ byte ⌝ }
-    ensures { λ r. ⌜ r ≡ byte - 48 ⌝ }
+    requires { ⌜ digitZero ≤ byte ⌝ }
+    ensures { λ r. ⌜ r ≡ byte - digitZero ⌝ }
 {
-    (byte - 48) as u64
+    (byte - b'0') as u64
 }
 
 // The number that a text begins with: one to ten digits without leading zeros.
@@ -56,7 +59,7 @@ pub fn read_number(text: &[u8]) -> Number
     if count == 0 {
         return Number::Bad;
     }
-    if DIGITS < count {
+    if MOST_DIGITS < count {
         return Number::Bad;
     }
     if count == 1 {
@@ -75,28 +78,57 @@ pub fn read_field(text: &[u8]) -> Number
     if text.len() == 0 {
         return Number::Bad;
     }
-    if text[0] == b',' {
+    if text[0] == COMMA {
         read_number(&text[1..])
     } else {
         Number::Bad
     }
 }
 
-// The three fields that a text begins with.
-pub fn read_triple(text: &[u8]) -> Triple
-    ensures { λ r. ⌜ r ≡ triple (now (text .entry)) ⌝ }
+// The fields that a text begins with, as many as `numbers` has places: each number goes to its place.
+pub fn read_fields(text: &[u8], numbers: &mut [u64]) -> Span
+    ensures { λ r. ⌜ fieldsOf r (now (numbers .exit)) ≡ readFields (length (now (numbers .entry))) (now (text .entry)) ⌝ }
 {
-    let Number::Value(a, first) = read_field(text) else {
-        return Triple::Bad;
-    };
-    let Number::Value(b, second) = read_field(&text[first..]) else {
-        return Triple::Bad;
-    };
-    let at = first + second;
-    let Number::Value(c, third) = read_field(&text[at..]) else {
-        return Triple::Bad;
-    };
-    Triple::Values(a, b, c, at + third)
+    let mut at: usize = 0;
+    let mut i: usize = 0;
+    while i < numbers.len() {
+        let Number::Value(value, bytes) = read_field(&text[at..]) else {
+            return Span::Bad;
+        };
+        numbers[i] = value;
+        at += bytes;
+        i += 1;
+    }
+    Span::Bytes(at)
+}
+
+// How many fields a line with this letter has; 0 for a byte that is no letter of a line.
+fn field_count(letter: u8) -> usize
+    ensures { λ r. ⌜ r ≡ fieldCount letter ⌝ }
+{
+    match letter {
+        b'M' => 6,
+        b'G' => 3,
+        b'R' => 3,
+        b'W' => 3,
+        _ => 0,
+    }
+}
+
+// The line with this letter and these numbers.
+fn line_of(letter: u8, n: [u64; MOST_FIELDS]) -> Line
+    ensures { λ r. ⌜ r ≡ lineOf letter n ⌝ }
+{
+    let a = n[0];
+    let b = n[1];
+    let c = n[2];
+    match letter {
+        b'M' => Line::M(a, b, c, n[3], n[4], n[5]),
+        b'G' => Line::G(a, b, c),
+        b'R' => Line::R(a, b, c),
+        b'W' => Line::W(a, b, c),
+        _ => Line::Malformed,
+    }
 }
 
 // The line that was read up to `at`, if an LF ends it there.
@@ -104,25 +136,11 @@ fn close_line(text: &[u8], at: usize, line: Line) -> Read
     ensures { λ r. ⌜ r ≡ closed (now (text .entry)) at line ⌝ }
 {
     if at < text.len() {
-        if text[at] == b'\n' {
-            return Read {
-                line: line,
-                next: at + 1,
-            };
+        if text[at] == LF {
+            return Read { line, next: at + 1 };
         }
     }
     MALFORMED
-}
-
-// An M line, whose last three fields stand at `at`, behind the numbers `a`, `b` and `c`.
-fn read_header(text: &[u8], at: usize, a: u64, b: u64, c: u64) -> Read
-    requires { ⌜ at ≤ length (now text) ⌝ }
-    ensures { λ r. ⌜ r ≡ long (now (text .entry)) a b c at (triple (drop at (now (text .entry)))) ⌝ }
-{
-    let Triple::Values(d, e, f, n) = read_triple(&text[at..]) else {
-        return MALFORMED;
-    };
-    close_line(text, at + n, Line::M(a, b, c, d, e, f))
 }
 
 // The line that a text begins with: its letter, its fields, and an LF.
@@ -132,14 +150,11 @@ pub fn read_line(text: &[u8]) -> Read
     if text.len() == 0 {
         return MALFORMED;
     }
-    let Triple::Values(a, b, c, n) = read_triple(&text[1..]) else {
+    let letter = text[0];
+    let count = field_count(letter);
+    let mut numbers = [0u64; MOST_FIELDS];
+    let Span::Bytes(n) = read_fields(&text[1..], &mut numbers[..count]) else {
         return MALFORMED;
     };
-    match text[0] {
-        b'M' => read_header(text, 1 + n, a, b, c),
-        b'G' => close_line(text, 1 + n, Line::G(a, b, c)),
-        b'R' => close_line(text, 1 + n, Line::R(a, b, c)),
-        b'W' => close_line(text, 1 + n, Line::W(a, b, c)),
-        _ => MALFORMED,
-    }
+    close_line(text, 1 + n, line_of(letter, numbers))
 }

@@ -18,10 +18,10 @@ use Rattle.model.specs.Record.{State, Location, register, word}
 use Rattle.model.specs.Ops.{noGate, table}
 use Rattle.model.specs.Step.{running, step, steps}
 use Rattle.model.specs.Answer.{answer}
-use Rattle.model.specs.Text.{isDigit, digits, decimalFrom, wellWritten, number, field, triple, readLine, linesIn, lines}
+use Rattle.model.specs.Text.{isDigit, digits, decimalFrom, wellWritten, number, field, readFields, fieldCount, lineOf, readLine, linesIn, lines}
 use Rattle.causes.specs.Tests.{firstRefusal}
 use Rattle.model.specs.Load.{headerInRange, gateInRange, entryInRange, inOrder, rising, headerTests, lineTests, judge, judgeHeader, judgeText, cleared, fill, load}
-use Rattle.model.specs.Listing.{decimalIn, decimal, fields, line, differs, entryLine, entryLines}
+use Rattle.model.specs.Listing.{decimalIn, decimal, fields, line, headLines, isListed, entryLine, entryLines}
 use Rattle.model.specs.Program.{stateOfLoad}
 use Rattle.model.specs.Seen.{within, exists, Seen, hidden, shown, seenAt, SeenControl, unseen, seen, seenControl, LowEquivalent}
 use Rattle.model.specs.Noninterference.{Invocation, lend, regain, answered, after, runStates, workStates, callStates, trace, final, atTick, reached, downgrades, gateCallsIn, timedFromOutside, StepsProvisos, Provisos, SameSetting}
@@ -272,7 +272,7 @@ counterexample ℓ k s t qs met l m e p q =
 
 -- All that a table computes with, beyond a step. Who says `unfolding computing` opens each of them.
 unfoldable pub computing : Bool
-unfolding stepping answer within exists seenAt seenControl lend regain answered after runStates workStates callStates trace final atTick reached downgrades gateCallsIn timedFromOutside sameSeen samePair sameCall sameControl sameSeenControl isDigit digits decimalFrom wellWritten number field triple readLine linesIn lines headerInRange gateInRange entryInRange inOrder rising headerTests lineTests firstRefusal judge judgeHeader judgeText cleared fill load decimalIn decimal fields line differs entryLine entryLines
+unfolding stepping answer within exists seenAt seenControl lend regain answered after runStates workStates callStates trace final atTick reached downgrades gateCallsIn timedFromOutside sameSeen samePair sameCall sameControl sameSeenControl isDigit digits decimalFrom wellWritten number field readFields fieldCount lineOf readLine linesIn lines headerInRange gateInRange entryInRange inOrder rising headerTests lineTests firstRefusal judge judgeHeader judgeText cleared fill load decimalIn decimal fields line headLines isListed entryLine entryLines
 computing = true
 
 -- The two machines of the main witness differ as their table says, at a sound label and at one that isn't.

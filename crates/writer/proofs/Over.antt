@@ -33,10 +33,6 @@ pub wrote-length : {text out after : List ℕ} {n : ℕ} → Wrote text out n af
 unfolding over
 wrote-length {text} {out} w = rw (w .output) (simp (length-append, length-drop) (omega (arith, w .fits)))
 
--- The text lies within the output.
-pub wrote-within : {text out after : List ℕ} {n : ℕ} → Wrote text out n after → n ≤ length after
-wrote-within w = omega (arith, w .fits, w .count, wrote-length w)
-
 -- One byte.
 pub wrote-byte : (b : ℕ) (out : List ℕ) → 0 < length out → Wrote (b ∷ []) out 1 (set out 0 b)
 unfolding over
@@ -57,11 +53,6 @@ wrote-text {text} {out} {after} {n} w = rw (w .output) (take-at text _ n (sym (w
 -- How much of the output is left to write on.
 pub wrote-room : {text out after : List ℕ} {n : ℕ} → Wrote text out n after → length (rest n after) ≡ length out - n
 wrote-room {text} {out} {after} {n} w = rw (rest-is, length-drop, wrote-length w)
-
--- There is room for what fits behind it.
-pub room-behind : {a out mid : List ℕ} {n : ℕ} (b : List ℕ) → Wrote a out n mid → length (a ++ b) ≤ length out
-    → length b ≤ length (rest n mid)
-room-behind {a} b w h = omega (arith, length-append a b, w .count, wrote-room w)
 
 -- A text, and another in the part that is lent behind it.
 pub wrote-then : {a b out mid part : List ℕ} {n k : ℕ} → Wrote a out n mid → Wrote b (rest n mid) k part

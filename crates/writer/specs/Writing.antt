@@ -2,10 +2,11 @@
 -- Assumes nothing.
 use Prim.Native.Nat.{ℕ, _≤_}
 use mathlib.Core.Path.{_≡_}
-use mathlib.Core.Bool.{_&&_, cond}
+use mathlib.Core.Bool.{cond}
 use mathlib.Core.List.{List, _++_}
 use lib.Dec.{leb}
 use lib.ListN.{length, drop}
+use Rattle.model.specs.Letters.{mostFields}
 use Rattle.model.specs.Listing.{line}
 
 -- A text written over the beginning of an output: what stands behind it stays.
@@ -19,11 +20,7 @@ pub record Wrote (text before : List ℕ) (given : ℕ) (after : List ℕ) : Typ
   pub count : given ≡ length text
   pub output : after ≡ over text before
 
--- The length of a line with these fields, whatever its letter; 0 where there are more than six.
-unfoldable pub lineLength : List ℕ → ℕ
-lineLength ns = cond (leb (length ns) 6) (length (line 0 ns)) 0
-
--- The answer of the line writer: how many bytes it wrote, and the output at exit.
+-- The answer of the line writer: how many bytes the line takes, and the output at exit.
 pub record Writing : Type 0 where
   pub count : ℕ
   pub output : List ℕ
@@ -32,9 +29,10 @@ pub record Writing : Type 0 where
 abbrev pub answer : ℕ → List ℕ → Writing
 answer n out = record { count = n; output = out }
 
--- A line of up to six fields is written where it fits, else nothing is.
+-- A text is written where it fits, else nothing is: its length is given in either case.
+unfoldable pub written : List ℕ → List ℕ → Writing
+written text out = answer (length text) (cond (leb (length text) (length out)) (over text out) out)
+
+-- A line of up to six fields is written so. More fields are no line: no byte.
 unfoldable pub writing : ℕ → List ℕ → List ℕ → Writing
-writing letter ns out =
-    cond (leb (length ns) 6 && leb (length (line letter ns)) (length out))
-    (answer (length (line letter ns)) (over (line letter ns) out))
-    (answer 0 out)
+writing letter ns out = cond (leb (length ns) mostFields) (written (line letter ns) out) (answer 0 out)

@@ -1,43 +1,30 @@
 // Writing a line of the text format: its letter, its fields, each a comma and a number in base ten, and an LF. A line is
 // written into the output's rest, which the caller lends from where the line before it ended.
+use model::format::COMMA;
+use model::format::LF;
+use model::format::MOST_FIELDS;
 ghost use mathlib.Core.Path.{_≡_};
 ghost use mathlib.Core.List.{_∷_};
 ghost use Prim.Native.Nat.{_≤_, _<_};
 ghost use lib.ListN.{length};
+ghost use Rattle.model.specs.Letters.{comma, mostFields};
 ghost use Rattle.model.specs.Listing.{decimal, fields};
-ghost use Rattle.writer.specs.Writing.{Wrote, lineLength, answer, writing};
+ghost use Rattle.writer.specs.Writing.{Wrote, answer, writing};
 
-const COMMA: u8 = 44;
+// The most digits of a number of 64 bits.
+const LONGEST: usize = 20;
 
-const ZERO: u8 = 48;
-
-const LF: u8 = 10;
-
-// No line has more fields.
-const MOST: usize = 6;
-
-// How many bytes the line with these numbers takes, whatever its letter; 0 where they are more than a line has.
-pub fn line_length(numbers: &[u64]) -> usize
-    ensures { λ r. ⌜ r ≡ lineLength (now (numbers .entry)) ⌝ }
-{
-    if numbers.len() <= MOST {
-        2 + fields_length(numbers)
-    } else {
-        0
-    }
-}
-
-// Writes a line and gives how many bytes it takes. Where the rest is too short for it, or the numbers are more than a
-// line has, it writes nothing and gives 0.
+// Writes a line and gives how many bytes it takes. Where the rest is too short for it nothing is written, and the answer
+// is the same: so a line is measured by lending an empty rest. More numbers than a line has are no line, of 0 bytes.
 pub fn write_line(out: &mut [u8], letter: u8, numbers: &[u64]) -> usize
     ensures { λ r. ⌜ answer r (now (out .exit)) ≡ writing letter (now (numbers .entry)) (now (out .entry)) ⌝ }
 {
-    let count = line_length(numbers);
-    if count == 0 {
+    if MOST_FIELDS < numbers.len() {
         return 0;
     }
+    let count = 2 + fields_length(numbers);
     if out.len() < count {
-        return 0;
+        return count;
     }
     out[0] = letter;
     let last = 1 + put_fields(&mut out[1..], numbers);
@@ -47,7 +34,7 @@ pub fn write_line(out: &mut [u8], letter: u8, numbers: &[u64]) -> usize
 
 // How many bytes the fields take.
 fn fields_length(numbers: &[u64]) -> usize
-    requires { ⌜ length (now numbers) ≤ 6 ⌝ }
+    requires { ⌜ length (now numbers) ≤ mostFields ⌝ }
     ensures { λ r. ⌜ r ≡ length (fields (now (numbers .entry))) ⌝ }
 {
     let mut sum: usize = 0;
@@ -59,14 +46,17 @@ fn fields_length(numbers: &[u64]) -> usize
     sum
 }
 
-// How many digits a number has.
+// How many digits a number has: the powers of ten are multiplied up to it, which takes less time than dividing it down.
 fn digit_count(n: u64) -> usize
     ensures { λ r. ⌜ r ≡ length (decimal n) ⌝ }
 {
     let mut count: usize = 1;
-    let mut high = n;
-    while 10 <= high {
-        high /= 10;
+    let mut bound: u64 = 10;
+    while bound <= n {
+        if count + 1 == LONGEST {
+            return LONGEST;
+        }
+        bound *= 10;
         count += 1;
     }
     count
@@ -90,7 +80,7 @@ fn put_fields(out: &mut [u8], numbers: &[u64]) -> usize
 // Writes a comma and a number.
 fn put_field(out: &mut [u8], n: u64) -> usize
     requires { ⌜ length (decimal n) < length (now out) ⌝ }
-    ensures { λ r. ⌜ Wrote (44 ∷ decimal n) (now (out .entry)) r (now (out .exit)) ⌝ }
+    ensures { λ r. ⌜ Wrote (comma ∷ decimal n) (now (out .entry)) r (now (out .exit)) ⌝ }
 {
     out[0] = COMMA;
     1 + put_number(&mut out[1..], n)
@@ -106,9 +96,9 @@ fn put_number(out: &mut [u8], n: u64) -> usize
     let mut rest = n;
     while 10 <= rest {
         at -= 1;
-        out[at] = ZERO + (rest % 10) as u8;
+        out[at] = b'0' + (rest % 10) as u8;
         rest /= 10;
     }
-    out[0] = ZERO + rest as u8;
+    out[0] = b'0' + rest as u8;
     count
 }

@@ -27,11 +27,8 @@ cast-number c = search needs
 cast-line : tie.Need-cast-line
 cast-line c = search needs
 
-slice-aggregate-write-line : tie.Need-slice-aggregate-write-line
-slice-aggregate-write-line c = search needs
-
-write-line-requires : tie.Need-write-line-requires
-write-line-requires c κs = search needs
+write-refusal-requires : tie.Need-write-refusal-requires
+write-refusal-requires c κs = search needs
 
 same-length : tie.Need-same-length
 same-length c = search needs
@@ -50,8 +47,8 @@ returns c =
     let start = loaded .before .before .before .before .before .before .before in
     refused-firing (start .args .text .now) (lent (start .args .words .now) (start .args .labels .now))
     (start .args .out .now) _ (loaded .load .ensures)
-    (answer (written .write-line .result) (written .write-line .last .0)) (ap isDone (told .enum-told2 .given .1))
-    (written .before .before .before .before .number .ensures) refl (written .write-line .ensures)
+    (answer (written .write-refusal .result) (written .write-refusal .last .0)) (ap isDone (told .enum-told2 .given .1))
+    (written .before .before .before .before .number .ensures) refl (written .write-refusal .ensures)
 
 run-requires : tie.Need-run-requires
 run-requires c κs = search needs
@@ -94,8 +91,7 @@ fire-spec =
     number-requires
     cast-number
     cast-line
-    slice-aggregate-write-line
-    write-line-requires
+    write-refusal-requires
     same-length
     same-length-2
     same-length-3

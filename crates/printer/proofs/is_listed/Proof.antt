@@ -1,7 +1,7 @@
 -- `printer::is_listed` meets its contract. By what the label test promises.
 -- Assumes nothing.
 use borrow.Author.Needs.{needs}
-use Rattle.printer.specs.Printing.{isListed}
+use Rattle.model.specs.Listing.{isListed}
 use Rattle.printer.proofs.is_listed.Statement.{statement}
 use Rattle.printer.proofs.is_listed.Tie as tie
 

@@ -1,5 +1,6 @@
 -- `printer::print_whole` meets its contract. 8 where the output is shorter than the listing, else the listing.
 -- Assumes nothing.
+use native.Mathlib.Omega.{arith}
 use borrow.Author.Needs.{needs}
 use Rattle.model.specs.Record.{Machine, Bank}
 use Rattle.machine.specs.Answered.{recordOf}
@@ -36,7 +37,9 @@ same-length c = search needs
 returns-2 : tie.Need-returns-2
 returns-2 c =
     let start = c .before .before .before .before .before .before .before .before .before in
-    listed (record-of start) (memory-of start) _ _ (c .before .before .before .before .before .listing-length .ensures) (c .before .before .write-listing .ensures)
+    listed (record-of start) (memory-of start) _ _
+    (c .before .before .before .before .before .listing-length .ensures)
+    (c .before .before .write-listing .ensures .output (omega arith))
 
 pub print-whole-spec : {M : Type 1} → statement M
 print-whole-spec =

@@ -1,14 +1,17 @@
 -- `printer::write_listing` meets its contract. One part behind the other.
 -- Assumes nothing.
+use Prim.Native.Nat.{_≤_}
 use mathlib.Core.Path.{_≡_, sym}
 use native.Mathlib.Omega.{arith}
 use lib.ListN.{length}
 use borrow.Author.Needs.{length-unmapped, needs}
+use Rattle.model.specs.Letters.{letterR, letterW}
 use Rattle.model.specs.Record.{stateOf, State}
+use Rattle.model.specs.Listing.{entryLines, listing}
 use Rattle.machine.specs.Answered.{recordOf}
-use Rattle.writer.proofs.Over.{wrote-then}
 use Rattle.printer.specs.Printing.{lent, Entries}
-use Rattle.printer.proofs.Lines.{head-room, registers-room, memory-room, listing-wrote}
+use Rattle.printer.proofs.Lines.{head-most, entries-most}
+use Rattle.printer.proofs.Places.{placed-then}
 use Rattle.printer.proofs.write_listing.Statement.{statement}
 use Rattle.printer.proofs.write_listing.Tie as tie
 
@@ -28,18 +31,16 @@ cast-size : tie.Need-cast-size
 cast-size c = search needs
 
 write-head-requires : tie.Need-write-head-requires
-write-head-requires c κs =
-    let start = c .before .before .before .before .before .before .before .before in
-    head-room (state start) (start .args .out .now) (start .pre .1)
+write-head-requires c κs = search needs
 
-sub-write-entries : tie.Need-sub-write-entries
-sub-write-entries c = search needs
-
-part-write-entries-start : tie.Need-part-write-entries-start
-part-write-entries-start c = search needs
-
-part-write-entries-end : tie.Need-part-write-entries-end
-part-write-entries-end c = search needs
+-- The E and F lines end within 342 bytes.
+head-place : (c : tie.After-write-head) → c .write-head .result ≤ 342
+head-place c =
+    omega (
+      arith,
+      c .write-head .ensures .place,
+      head-most (c .before .before .before .before .before .before .before .before .before .args .machine .control),
+    )
 
 slice-aggregate-write-entries : tie.Need-slice-aggregate-write-entries
 slice-aggregate-write-entries c = search needs
@@ -55,52 +56,38 @@ slice-aggregate-write-entries-2 c =
 
 write-entries-requires : tie.Need-write-entries-requires
 write-entries-requires c κs =
-    let start =
-    c .before .before .before .before .before .before .before .before .before .before .before
-    .before .before .before in (
-      sixteen start,
-      registers-room (state start) _ (start .pre .1)
-          (c .before .before .before .before .before .write-head .ensures),
+    let headed = c .before .before .before .before .before in (
+      sixteen (headed .before .before .before .before .before .before .before .before .before),
+      omega (arith, head-place headed),
     )
-
-add-at : tie.Need-add-at
-add-at c = search needs
-
-sub-write-entries-2 : tie.Need-sub-write-entries-2
-sub-write-entries-2 c = search needs
-
-part-write-entries-start-2 : tie.Need-part-write-entries-start-2
-part-write-entries-start-2 c = search needs
-
-part-write-entries-end-2 : tie.Need-part-write-entries-end-2
-part-write-entries-end-2 c = search needs
 
 write-entries-requires-2 : tie.Need-write-entries-requires-2
 write-entries-requires-2 c κs =
-    let start =
-    c .before .before .before .before .before .before .before .before .before .before .before
-    .before .before .before .before .before .before .before in (
-      start .pre .0,
-      memory-room (state start) _ (start .pre .1)
-          (wrote-then (c .before .before .before .before .before .before .before .before .before .write-head .ensures)
-          (c .before .before .before .write-entries .ensures)),
+    let headed = c .before .before .before .before .before .before .before .before .before in
+    let start = headed .before .before .before .before .before .before .before .before .before in (
+      start .pre,
+      omega (
+        arith,
+        head-place headed,
+        c .before .before .before .write-entries .ensures .place,
+        entries-most letterR (state start .registers) 0 16,
+        start .pre .most,
+      ),
     )
-
-add-at-2 : tie.Need-add-at-2
-add-at-2 c = search needs
 
 same-length : tie.Need-same-length
 same-length c = search needs
 
 returns : tie.Need-returns
+unfolding listing
 returns c =
-    let start =
-    c .before .before .before .before .before .before .before .before .before .before .before
-    .before .before .before .before .before .before .before .before .before .before in
-    listing-wrote (state start) (wrote-then
-    (wrote-then (c .before .before .before .before .before .before .before .before .before .before .before .before .write-head .ensures)
+    let headed = c .before .before .before .before .before .before .before .before .before .before .before .before in
+    let start = headed .before .before .before .before .before .before .before .before .before in
+    let s = state start in
+    placed-then {b = entryLines letterW (s .memory) 0 (s .fixed .size)}
+    (placed-then {b = entryLines letterR (s .registers) 0 16} (headed .write-head .ensures)
     (c .before .before .before .before .before .before .write-entries .ensures))
-    (c .before .before .write-entries2 .ensures))
+    (c .before .before .write-entries2 .ensures)
 
 pub write-listing-spec : {M : Type 1} → statement M
 write-listing-spec =
@@ -108,17 +95,9 @@ write-listing-spec =
     (tie.spec
     cast-size
     write-head-requires
-    sub-write-entries
-    part-write-entries-start
-    part-write-entries-end
     slice-aggregate-write-entries
     slice-aggregate-write-entries-2
     write-entries-requires
-    add-at
-    sub-write-entries-2
-    part-write-entries-start-2
-    part-write-entries-end-2
     write-entries-requires-2
-    add-at-2
     same-length
     returns)

@@ -1,189 +1,105 @@
--- `reader::read_line` meets its contract: one case for each letter; where three fields are bad, the letter makes
--- no difference.
+-- `reader::read_line` meets its contract: the fields are those behind the letter, and the line is made from them and
+-- closed.
 -- Assumes nothing.
-use Prim.Native.Nat.{_≤_}
+use mathlib.Core.Path.{_≡_, sym}
 use native.Mathlib.Omega.{arith}
-use lib.ListN.{length, List·getD-eq-default}
+use lib.ListN.{drop, getD, length-drop}
+use lib.Seq.{length-take-le}
 use borrow.Author.Needs.{needs}
-use borrow.Author.Tests.{ne-eqb}
-use Rattle.model.specs.Text.{readLine}
-use Rattle.reader.proofs.Laws.{triple-of-part, triple-behind, line-bad}
+use Rattle.model.specs.Text.{readFields, fieldCount, readLine}
+use Rattle.reader.specs.Reading.{fieldsOf}
+use Rattle.reader.proofs.Laws.{count-most, fields-behind, fields-within, line-in-front, no-line}
 use Rattle.reader.proofs.read_line.Statement.{statement}
 use Rattle.reader.proofs.read_line.Tie as tie
 
 returns : tie.Need-returns
-unfolding readLine
-returns c =
-    let h : length (c .before .before .args .text .now) ≤ 0 = omega arith in rw
-    (List·getD-eq-default (c .before .before .args .text .now) 0 h)
+returns c = no-line (c .before .before .args .text .now) (omega arith)
 
-sub-read-triple : tie.Need-sub-read-triple
-sub-read-triple c = search needs
+shared-slice-read-letter : tie.Need-shared-slice-read-letter
+shared-slice-read-letter c = search needs
 
-part-read-triple-start : tie.Need-part-read-triple-start
-part-read-triple-start c = search needs
+field-count-requires : tie.Need-field-count-requires
+field-count-requires c κs = search needs
 
-part-read-triple-end : tie.Need-part-read-triple-end
-part-read-triple-end c = search needs
+sub-read-fields : tie.Need-sub-read-fields
+sub-read-fields c = search needs
 
-read-triple-requires : tie.Need-read-triple-requires
-read-triple-requires c κs = search needs
+part-read-fields-start : tie.Need-part-read-fields-start
+part-read-fields-start c = search needs
 
-enum-known-a : tie.Need-enum-known-a
-enum-known-a c = search needs
+part-read-fields-end : tie.Need-part-read-fields-end
+part-read-fields-end c = search needs
+
+array-borrow-prefix-numbers : tie.Need-array-borrow-prefix-numbers
+array-borrow-prefix-numbers c = rw (c .before .field-count .ensures) (count-most _)
+
+-- There are as many places as the letter has fields.
+slice-aggregate-read-fields : tie.Need-slice-aggregate-read-fields
+slice-aggregate-read-fields c =
+    sym (length-take-le _ _ (rw (c .before .before .field-count .ensures) (count-most _)))
+
+read-fields-requires : tie.Need-read-fields-requires
+read-fields-requires c κs = search needs
+
+-- The fields that were read.
+fields-read : (c : tie.After-numbers2)
+    → let xs = c .before .before .before .before .before .before .before .before .args .text .now in
+    readFields (fieldCount (getD xs 0 0)) (drop 1 xs)
+    ≡ fieldsOf (c .before .read-fields .result) (c .before .read-fields .last .1 .0)
+fields-read c =
+    fields-behind (c .before .before .before .before .before .before .before .before .args .text .now) _
+    (c .before .read-fields .result) (c .before .before .before .before .field-count .ensures)
+    (sym (slice-aggregate-read-fields (c .before .before))) (c .before .read-fields .ensures)
+
+enum-known-n : tie.Need-enum-known-n
+enum-known-n c = search needs
 
 enum-told : tie.Need-enum-told
 enum-told c = search needs
 
 returns-2 : tie.Need-returns-2
-returns-2 c =
-    let x = c .before .before .before .before .before .before .args .text .now in
-    line-bad x (triple-of-part x 1 _ _ (c .before .before .read-triple .ensures) (c .enum-told .given .1))
-
-shared-slice-read-match2 : tie.Need-shared-slice-read-match2
-shared-slice-read-match2 c = search needs
-
-add-read-header : tie.Need-add-read-header
-add-read-header c =
-    let x = c .before .before .before .before .before .before .before .before .before .args .text .now in
-    omega (
-      arith,
-      triple-behind x 1 _ _ _ _ (omega arith)
-          (triple-of-part x 1 _ _ (c .before .before .before .before .before .read-triple .ensures)
-          (c .before .before .before .a .given .1)),
-    )
-
-read-header-requires : tie.Need-read-header-requires
-read-header-requires c κs =
-    let x = c .before .before .before .before .before .before .before .before .before .args .text .now in
-    omega (
-      arith,
-      triple-behind x 1 _ _ _ _ (omega arith)
-          (triple-of-part x 1 _ _ (c .before .before .before .before .before .read-triple .ensures)
-          (c .before .before .before .a .given .1)),
-    )
+unfolding readLine
+returns-2 c = rw (fields-read (c .before .before), c .enum-told .given .1)
 
 add-close-line : tie.Need-add-close-line
 add-close-line c =
-    let x = c .before .before .before .before .before .before .before .before .before .args .text .now in
+    let xs = c .before .before .before .before .before .before .before .before .before .before .before .args .text .now in
     omega (
       arith,
-      triple-behind x 1 _ _ _ _ (omega arith)
-          (triple-of-part x 1 _ _ (c .before .before .before .before .before .read-triple .ensures)
-          (c .before .before .before .a .given .1)),
+      length-drop 1 xs,
+      fields-within (fieldCount (getD xs 0 0)) (drop 1 xs) _ _
+          (rw (c .before .n .given .1) at (fields-read (c .before .before .before))),
     )
+
+line-of-requires : tie.Need-line-of-requires
+line-of-requires c κs = search needs
 
 close-line-requires : tie.Need-close-line-requires
 close-line-requires c κs = search needs
 
-add-close-line-2 : tie.Need-add-close-line-2
-add-close-line-2 c =
-    let x = c .before .before .before .before .before .before .before .before .before .args .text .now in
-    omega (
-      arith,
-      triple-behind x 1 _ _ _ _ (omega arith)
-          (triple-of-part x 1 _ _ (c .before .before .before .before .before .read-triple .ensures)
-          (c .before .before .before .a .given .1)),
-    )
-
-close-line-requires-2 : tie.Need-close-line-requires-2
-close-line-requires-2 c κs = search needs
-
-add-close-line-3 : tie.Need-add-close-line-3
-add-close-line-3 c =
-    let x = c .before .before .before .before .before .before .before .before .before .args .text .now in
-    omega (
-      arith,
-      triple-behind x 1 _ _ _ _ (omega arith)
-          (triple-of-part x 1 _ _ (c .before .before .before .before .before .read-triple .ensures)
-          (c .before .before .before .a .given .1)),
-    )
-
-close-line-requires-3 : tie.Need-close-line-requires-3
-close-line-requires-3 c κs = search needs
-
 returns-3 : tie.Need-returns-3
 unfolding readLine
 returns-3 c =
-    let x = c .before .before .before .before .before .before .before .before .before .before .args .text .now in
-    rw (
-      c .before .match2 .keys1,
-      triple-of-part x 1 _ _
-          (c .before .before .before .before .before .before .read-triple .ensures)
-          (c .before .before .before .before .a .given .1),
-    )
-    (c .read-header .ensures)
-
-returns-4 : tie.Need-returns-4
-unfolding readLine
-returns-4 c =
-    let x = c .before .before .before .before .before .before .before .before .before .before .args .text .now in
-    rw (
-      c .before .match2 .keys2,
-      triple-of-part x 1 _ _
-          (c .before .before .before .before .before .before .read-triple .ensures)
-          (c .before .before .before .before .a .given .1),
-    )
-    (c .close-line .ensures)
-
-returns-5 : tie.Need-returns-5
-unfolding readLine
-returns-5 c =
-    let x = c .before .before .before .before .before .before .before .before .before .before .args .text .now in
-    rw (
-      c .before .match2 .keys3,
-      triple-of-part x 1 _ _
-          (c .before .before .before .before .before .before .read-triple .ensures)
-          (c .before .before .before .before .a .given .1),
-    )
-    (c .close-line2 .ensures)
-
-returns-6 : tie.Need-returns-6
-unfolding readLine
-returns-6 c =
-    let x = c .before .before .before .before .before .before .before .before .before .before .args .text .now in
-    rw (
-      c .before .match2 .keys4,
-      triple-of-part x 1 _ _
-          (c .before .before .before .before .before .before .read-triple .ensures)
-          (c .before .before .before .before .a .given .1),
-    )
-    (c .close-line3 .ensures)
-
-returns-7 : tie.Need-returns-7
-unfolding readLine
-returns-7 c =
-    rw (
-      ne-eqb _ _ (c .match2 .rest .0 .0 .0 .1),
-      ne-eqb _ _ (c .match2 .rest .0 .0 .1),
-      ne-eqb _ _
-          (c .match2 .rest .0 .1),
-      ne-eqb _ _ (c .match2 .rest .1),
-    )
+    rw (fields-read (c .before .before .before .before .before), c .before .before .before .n .given .1)
+    (rw (c .before .line-of .ensures, line-in-front _ _ _ 6) at (c .close-line .ensures))
 
 pub read-line-spec : {M : Type 1} → statement M
 read-line-spec =
     tie.close
     (tie.spec
     returns
-    sub-read-triple
-    part-read-triple-start
-    part-read-triple-end
-    read-triple-requires
-    enum-known-a
+    shared-slice-read-letter
+    field-count-requires
+    sub-read-fields
+    part-read-fields-start
+    part-read-fields-end
+    array-borrow-prefix-numbers
+    slice-aggregate-read-fields
+    read-fields-requires
+    enum-known-n
     enum-told
     returns-2
-    shared-slice-read-match2
-    add-read-header
-    read-header-requires
     add-close-line
+    line-of-requires
     close-line-requires
-    add-close-line-2
-    close-line-requires-2
-    add-close-line-3
-    close-line-requires-3
-    returns-3
-    returns-4
-    returns-5
-    returns-6
-    returns-7)
+    returns-3)

@@ -1,39 +1,52 @@
--- `writer::digit_count` meets its contract. The digits counted and those of what is left are the number's and one
--- more.
+-- `writer::digit_count` meets its contract: the digits are counted while the number reaches the next power of ten.
 -- Assumes nothing.
-use Prim.Native.Nat.{_+_, _≤_}
-use mathlib.Core.Path.{_≡_, ap}
+use Prim.Native.Nat.{_-_}
 use native.Mathlib.Omega.{arith}
-use lib.ListN.{length, length-append}
-use Rattle.model.specs.Listing.{decimal}
-use Rattle.writer.proofs.Decimal.{decimal-digit, decimal-digits, most-digits, least-digits}
+use Rattle.writer.proofs.Decimal.{Counted, count-first, count-end, count-last, count-room, count-more}
 use Rattle.writer.proofs.digit_count.Statement.{statement}
 use Rattle.writer.proofs.digit_count.Tie as tie
 
 abbrev Inv-loop : tie.InvT-loop
-Inv-loop n count₀ high₀ count high = (count + length (decimal high) ≡ length (decimal n) + 1) × (high ≤ n)
+Inv-loop n count₀ bound₀ count bound = Counted n count bound
 
 abbrev μ-loop : tie.MeasureT-loop
-μ-loop n count₀ high₀ count high = high
+μ-loop n count₀ bound₀ count bound = 20 - count
 
 loop-holds : tie.Need-loop-holds Inv-loop μ-loop
-loop-holds c = omega arith
+loop-holds c = count-first (c .args .n)
+
+add-if1 : tie.Need-add-if1 Inv-loop μ-loop
+add-if1 c = omega arith
+
+returns : tie.Need-returns Inv-loop μ-loop
+returns c = count-last _ _ _ (c .before .before .loop .inv) (c .before .loop-test .taken) (c .if1 .taken)
+
+mul-bound : tie.Need-mul-bound Inv-loop μ-loop
+mul-bound c = omega (arith, count-room _ _ _ (c .before .before .loop .inv) (c .before .loop-test .taken) (c .if1 .left))
 
 add-count : tie.Need-add-count Inv-loop μ-loop
-add-count c = omega (arith, most-digits (c .before .before .args .n), least-digits (c .before .loop .high))
+add-count c = omega arith
 
 loop-less : tie.Need-loop-less Inv-loop μ-loop
 loop-less c = omega arith
 
 loop-again : tie.Need-loop-again Inv-loop μ-loop
-loop-again c =
-    let high = c .before .loop .high in
-    let e = simp length-append at (ap length (decimal-digits high (c .loop-test .taken) (omega arith))) in
-    omega arith
+loop-again c = count-more _ _ _ (c .before .before .loop .inv) (c .before .loop-test .taken) (c .if1 .left)
 
-returns : tie.Need-returns Inv-loop μ-loop
-returns c = omega (arith, ap length (decimal-digit (c .before .loop .high) (c .loop-test .left)))
+returns-2 : tie.Need-returns-2 Inv-loop μ-loop
+returns-2 c = count-end _ _ _ (c .before .loop .inv) (c .loop-test .left)
 
 pub digit-count-spec : {M : Type 1} → statement M
 digit-count-spec =
-    tie.close (tie.spec Inv-loop μ-loop loop-holds add-count loop-less loop-again returns)
+    tie.close
+    (tie.spec
+    Inv-loop
+    μ-loop
+    loop-holds
+    add-if1
+    returns
+    mul-bound
+    add-count
+    loop-less
+    loop-again
+    returns-2)
