@@ -4,7 +4,7 @@
 use Prim.Native.Nat.{ℕ, zero, suc, _<_, _≤_}
 use mathlib.Core.Path.{_≡_, refl, sym, ap, _∙_, subst}
 use mathlib.Core.Logic.{⊎-elim}
-use mathlib.Core.Bool.{Bool, true, false, not, _&&_, _||_, cond}
+use mathlib.Core.Bool.{Bool, true, false, not, _&&_, _||_, cond, and-false}
 use native.Mathlib.Omega.{arith}
 use lib.Dec.{ltb, eqb}
 use lib.ListN.{getD}
@@ -146,6 +146,13 @@ module _ (s : State) where
         go true true d e = absurd (plain-label {w = nothing} tt e)
         go true false d e = set-plan (fetch s) refl d e
         go false c d e = absurd (plain-label {w = nothing} tt e)
+
+-- ---- what attempts nothing
+
+-- A raise is no release: what it raises from outside stays outside.
+pub raise-quiet : (ℓ : ℕ) (s : State) (w : ℕ) → fetch s ≡ fetched w (setLabel raise) → attempts ℓ s ≡ false
+unfolding attempts
+raise-quiet ℓ s w f = rw (f, and-false)
 
 -- ---- no label is lowered but by an attempt
 

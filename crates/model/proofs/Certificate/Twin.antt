@@ -132,11 +132,7 @@ breaks-same ℓ s t e c = ap₂ (λ (x y : Bool). x || y) (large-same ℓ s t e 
 
 break-same : (ℓ : ℕ) (s t : State) → SameSetting s t → s .control ≡ t .control → breakAt ℓ s ≡ breakAt ℓ t
 unfolding breakAt
-break-same ℓ s t e c =
-    ap₂
-    (λ (b : Bool) (d : Control).
-    cond b (record { cause = 2; tick = d .clock; place = 0 }) (record { cause = 3; tick = d .clock; place = d .pc }))
-    (large-same ℓ s t e c) c
+break-same ℓ s t e c = rw (large-same ℓ s t e c, c)
 
 -- ---- outside for good, with no gate that leads within
 

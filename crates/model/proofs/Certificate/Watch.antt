@@ -92,7 +92,7 @@ found {ℓ} {s} r m (later a b more) (suc n) h =
 module _ (ℓ : ℕ) (s : State) (r : Ready s) (n : breaks ℓ s ≡ false) where
   pub certify-breaks : (certify ℓ s ≡ whole) ⊎ Breaks ℓ s (certify ℓ s)
   unfolding certify
-  certify-breaks = rw n (watched ℓ (s .fixed .limit - s .control .clock + 1) s)
+  certify-breaks = rw n (watched ℓ _ s)
 
   pub certify-found : {c : Certificate} → Breaks ℓ s c → certify ℓ s ≡ c
   unfolding certify
