@@ -30,11 +30,11 @@ skim-steps (suc n) s =
 -- ---- where the hot loop stops
 
 -- What the limit leaves of a close or of spent time is done by no op.
-not-done : (s : State) (d : Decision) → isCarried d ≡ false → isCarried (inLimit s d) ≡ false
+pub not-done : (s : State) (d : Decision) → isCarried d ≡ false → isCarried (inLimit s d) ≡ false
 unfolding inLimit
 not-done s d e = choice (λ (x : Decision). isCarried x ≡ false) (beyondLimit s d) _ _ (λ b. refl) (λ b. e)
 
-late-not-done : (s : State) → isCarried (lateOf s) ≡ false
+pub late-not-done : (s : State) → isCarried (lateOf s) ≡ false
 late-not-done s = choice (λ (x : Decision). isCarried x ≡ false) (inUpcall (s .control)) _ _ (λ b. refl) (λ b. refl)
 
 -- None of these ops is a common one.

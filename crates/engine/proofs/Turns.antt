@@ -76,7 +76,7 @@ module _ {s : State} {up : Bool} {deadline : ℕ} (h : Timed s up deadline) wher
 
   module _ (k : ℕ) (change : Change) where
     -- An op that finishes by the deadline is in time for an upcall and for the limit.
-    in-time : s .control .clock + k ≤ deadline → inTime s (carry k change) ≡ carry k change
+    pub in-time : s .control .clock + k ≤ deadline → inTime s (carry k change) ≡ carry k change
     in-time d = go up (h .upcall) (h .due)
       where
         go : (b : Bool) → inUpcall (s .control) ≡ b → deadline ≡ deadlineOf b (endTick s) (s .fixed .limit)
@@ -85,7 +85,7 @@ module _ {s : State} {up : Bool} {deadline : ℕ} (h : Timed s up deadline) wher
         go true e f =
             rw (e, le-ltb (endTick s) (s .control .clock + k) (omega (arith, due-tick (endTick s) (s .fixed .limit), f)))
 
-    in-limit : 0 < k → s .control .clock + k ≤ deadline → inLimit s (carry k change) ≡ carry k change
+    pub in-limit : 0 < k → s .control .clock + k ≤ deadline → inLimit s (carry k change) ≡ carry k change
     unfolding inLimit beyondLimit finish
     in-limit p d =
         rw (
@@ -98,7 +98,7 @@ module _ {s : State} {up : Bool} {deadline : ℕ} (h : Timed s up deadline) wher
     over-limit q = rw (lt-ltb (s .fixed .limit) (s .control .clock + k) q)
 
     -- An op that finishes past the deadline closes the upcall, or spends the clock.
-    past : deadline < s .control .clock + k → inLimit s (inTime s (carry k change)) ≡ inLimit s (lateOf s)
+    pub past : deadline < s .control .clock + k → inLimit s (inTime s (carry k change)) ≡ inLimit s (lateOf s)
     past d = go up (h .upcall) (h .due)
       where
         tick : (b : Bool) → ltb (endTick s) (s .fixed .limit) ≡ b → inUpcall (s .control) ≡ true

@@ -6,7 +6,7 @@ ghost use Rattle.model.specs.Record.{isEmpty, isGate, isUpcall, pairOf, returnO
 ghost use Rattle.engine.specs.Rest.{newestOf};
 
 // The newest of two open calls.
-pub(crate) fn newest(first: Call, second: Call) -> Call
+pub fn newest(first: Call, second: Call) -> Call
     ensures { λ r. ⌜ r ≡ newestOf first second ⌝ }
 {
     match second {
@@ -36,7 +36,7 @@ pub(crate) fn is_gate(call: Call) -> bool
     }
 }
 
-pub(crate) fn is_upcall(call: Call) -> bool
+pub fn is_upcall(call: Call) -> bool
     ensures { λ r. ⌜ r ≡ isUpcall call ⌝ }
 {
     match call {

@@ -1,4 +1,4 @@
 // The core of the machine: so many steps of a control over lent registers and memory. One step and the run share it.
-mod calls;
+pub mod calls;
 pub mod steps;
-mod word;
+pub mod word;

@@ -2,6 +2,7 @@
 // nothing is done. The functions below that ask something of their caller are seen here alone.
 use crate::word::index;
 pub use drive::Halted;
+pub use drive::deadline_of;
 use drive::drive;
 use model::Control;
 use model::Fixed;

@@ -4,20 +4,20 @@ ghost use mathlib.Core.Path.{_≡_};
 ghost use Rattle.model.specs.Word.{opField, aField, bField, cField, dField, nField};
 
 // The op's number.
-pub(crate) fn op_of(w: u32) -> u32
+pub fn op_of(w: u32) -> u32
     ensures { λ r. ⌜ r ≡ opField w ⌝ }
 {
     w / 16777216
 }
 
 // The register numbers.
-pub(crate) fn a_of(w: u32) -> usize
+pub fn a_of(w: u32) -> usize
     ensures { λ r. ⌜ (r ≡ aField w) × (r < 16) ⌝ }
 {
     (w / 1048576 % 16) as usize
 }
 
-pub(crate) fn b_of(w: u32) -> usize
+pub fn b_of(w: u32) -> usize
     ensures { λ r. ⌜ (r ≡ bField w) × (r < 16) ⌝ }
 {
     (w / 65536 % 16) as usize
@@ -43,7 +43,7 @@ pub(crate) fn n_of(w: u32) -> u32
 }
 
 // A number as an index.
-pub(crate) fn index(n: u32) -> usize
+pub fn index(n: u32) -> usize
     ensures { λ r. ⌜ r ≡ n ⌝ }
 {
     n as usize

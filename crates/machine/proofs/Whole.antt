@@ -19,7 +19,7 @@ use Rattle.model.specs.WellFormed.{isValid, fixedInRange, endInRange, upcallWel
 use Rattle.model.specs.Step.{step, steps, run}
 use Rattle.model.specs.Answer.{answer}
 use Rattle.machine.specs.declared.Machine.{Machine}
-use Rattle.engine.specs.Drive.{stateFrom, Fit, Driven}
+use Rattle.engine.specs.Drive.{stateFrom, Fit}
 use Rattle.machine.specs.Answered.{recordOf, answered, lent, stepped, Carried, overGate}
 
 -- ---- the two places for open calls, by the first
@@ -97,14 +97,14 @@ counted false s = refl
 
 pub carried-of : {once : Bool} {m : Machine} {count : ℕ} {words labels : List ℕ} {control : Control} {values marks words′ : List ℕ}
     → count ≡ cond once 1 (m .fixed .limit - m .control .clock + 1)
-    → Driven (m .fixed) (m .control) count (m .values) (m .labels) words labels control values marks words′
+    → stateFrom (m .fixed) control values marks words′ labels ≡ steps count (stateFrom (m .fixed) (m .control) (m .values) (m .labels) words labels)
     → Carried once m words labels (record { fixed = m .fixed; control = control; values = values; labels = marks }) words′ labels
 carried-of {once} {m} {count} {words} {labels} {control} {values} {marks} {words′} e h =
     record { machine = ap machineOf there; memory = ap (λ (s : State). s .memory) there }
   where
     there : stateFrom (m .fixed) control values marks words′ labels ≡ stepped once (stateFrom (m .fixed) (m .control) (m .values) (m .labels) words labels)
     there =
-        h .is ∙ ap (λ (n : ℕ). steps n (stateFrom (m .fixed) (m .control) (m .values) (m .labels) words labels)) e
+        h ∙ ap (λ (n : ℕ). steps n (stateFrom (m .fixed) (m .control) (m .values) (m .labels) words labels)) e
         ∙ counted once (stateFrom (m .fixed) (m .control) (m .values) (m .labels) words labels)
 
 module _ (once : Bool) (m : Machine) (words labels : List ℕ) where

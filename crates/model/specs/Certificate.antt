@@ -5,16 +5,19 @@
 use Prim.Native.Nat.{ℕ, zero, suc, _+_, _-_, _<_, _≤_}
 use mathlib.Core.Path.{_≡_}
 use mathlib.Core.Bool.{Bool, true, false, not, _&&_, _||_, cond}
-use mathlib.Core.List.{List}
-use lib.ListN.{getD}
+use mathlib.Core.List.{List, [], _∷_, _++_}
+use lib.ListN.{length, drop, getD}
 use Rattle.labels.specs.Label.{flows, reflection}
+use Rattle.causes.specs.declared.Outcome.{Outcome}
+use Rattle.causes.specs.Causes.{numberOf, isDone}
 use Rattle.model.specs.declared.Fixed.{Fixed}
 use Rattle.model.specs.Record.{Bank, State, inUpcall}
 use Rattle.model.specs.Word.{Op, immediate, arithmetic, load as loadWord, store, branch, jump, readClock, setLabel, setPair, upcall, endUpcall, gateCall, gateReturn, halt, raise, relabel}
 use Rattle.model.specs.Ops.{isLabel, noGate, p, La, Lb, Rb}
 use Rattle.model.specs.Step.{Fetched, failed, fetched, fetch, isCarried, decide, step, steps}
-use Rattle.model.specs.Load.{load}
-use Rattle.model.specs.Program.{stateOfLoad}
+use Rattle.model.specs.Load.{Loading, load}
+use Rattle.model.specs.Listing.{line}
+use Rattle.model.specs.Program.{stateOfLoad, memoryAfter, programMemory, Replied}
 use Rattle.model.specs.Seen.{within, LowEquivalent}
 use Rattle.model.specs.Noninterference.{Invocation, trace, atTick, reached, timedFromOutside, Provisos, SameSetting, Accepted}
 
@@ -107,6 +110,42 @@ watch ℓ (suc n) s =
 -- The first break of the run from a state on. As for the run, limit - clock + 1 steps are enough.
 unfoldable pub certify : ℕ → State → Certificate
 certify ℓ s = cond (breaks ℓ s) (breakAt ℓ s) (watch ℓ (s .fixed .limit - s .control .clock + 1) s)
+
+-- ---- an image certified
+
+-- What the call answers: the outcome of load with its line; the certificate, which for a refused image is whole; and the
+-- lent memory at exit.
+pub record Certifying : Type 0 where
+  pub outcome : Outcome
+  pub line : ℕ
+  pub certificate : Certificate
+  pub memory : Bank
+
+-- After a load. An accepted image is run to the end, also behind a break.
+abbrev pub certifyingLoad : ℕ → Loading → Certifying
+certifyingLoad ℓ a =
+    record {
+      outcome = a .outcome;
+      line = a .line;
+      certificate = cond (isDone (a .outcome)) (certify ℓ (stateOfLoad a)) whole;
+      memory = memoryAfter a;
+    }
+
+-- An image loaded and certified at ℓ.
+unfoldable pub certifying : ℕ → List ℕ → Bank → Certifying
+certifying ℓ text m = certifyingLoad ℓ (load text m)
+
+-- What the program `certifying` prints of it: `V,cause,tick,place`; for a refusal `X,number,line`.
+unfoldable pub verdictLine : Certifying → List ℕ
+verdictLine a =
+    cond (isDone (a .outcome)) (line 86 (a .certificate .cause ∷ a .certificate .tick ∷ a .certificate .place ∷ []))
+    (line 88 (numberOf (a .outcome) ∷ a .line ∷ []))
+
+-- An image certified in the program's memory: how many bytes, and the output that holds them at its start.
+unfoldable pub certifyAlone : ℕ → List ℕ → List ℕ → Replied
+certifyAlone ℓ text out =
+    let o = verdictLine (certifying ℓ text programMemory) in
+    record { bytes = length o; output = o ++ drop (length o) out }
 
 -- ---- the theorems
 

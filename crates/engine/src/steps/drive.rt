@@ -19,7 +19,7 @@ ghost use Rattle.engine.specs.Common.{deadlineOf};
 ghost use Rattle.engine.specs.Drive.{contextOf, Fit, Driven};
 
 // The tick by which a common op has to finish.
-fn deadline_of(limit: u32, call: Call) -> u32
+pub fn deadline_of(limit: u32, call: Call) -> u32
     ensures { λ r. ⌜ (r ≡ deadlineOf (isUpcall call) (endTickOf call) limit) × (r ≤ limit) ⌝ }
 {
     if is_upcall(call) {
