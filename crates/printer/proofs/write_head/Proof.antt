@@ -43,6 +43,7 @@ write-call-requires-2 c κs =
       end-place ended,
       c .before .before .before .write-call .ensures .place,
       call-most (ended .before .before .before .before .before .args .control .first),
+      call-most (ended .before .before .before .before .before .args .control .second),
     )
 
 same-length : tie.Need-same-length
