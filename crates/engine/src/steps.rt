@@ -6,6 +6,9 @@ pub use drive::deadline_of;
 use drive::drive;
 use model::Control;
 use model::Fixed;
+use model::numbers::MOST_GATES;
+use model::numbers::MOST_TICKS;
+use model::numbers::MOST_WORDS;
 ghost use mathlib.Core.Path.{_≡_};
 ghost use mathlib.Core.Bool.{_&&_};
 ghost use lib.Dec.{leb};
@@ -21,9 +24,9 @@ fn is_fitting(fixed: Fixed, start: Control, words: usize, labels: usize) -> bool
     ensures { λ r. ⌜ r ≡ (leb (fixed .size) 2048 && leb (fixed .limit) 16777216 && leb (fixed .count) 8 && leb (start .clock) (fixed .limit) && leb (fixed .size) words && leb (fixed .size) labels) ⌝ }
 {
     let size = index(fixed.size);
-    (fixed.size <= 2048)
-        & (fixed.limit <= 16777216)
-        & (fixed.count <= 8)
+    (fixed.size <= MOST_WORDS)
+        & (fixed.limit <= MOST_TICKS)
+        & (fixed.count <= MOST_GATES)
         & (start.clock <= fixed.limit)
         & (size <= words)
         & (size <= labels)

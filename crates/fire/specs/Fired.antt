@@ -5,7 +5,7 @@ use mathlib.Core.Bool.{cond}
 use mathlib.Core.List.{List, [], _∷_}
 use lib.Dec.{leb}
 use lib.ListN.{length}
-use Rattle.model.specs.Letters.{letterX}
+use Rattle.model.specs.Numbers.{letterX}
 use Rattle.model.specs.Listing.{line}
 use Rattle.model.specs.Program.{Firing, Replied}
 use Rattle.writer.specs.Writing.{Writing, answer, over}

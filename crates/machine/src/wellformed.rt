@@ -2,29 +2,38 @@
 use labels::Label;
 use model::Call;
 use model::Pair;
-ghost use Prim.Native.Nat.{_^_};
+use model::numbers::MOST_GATES;
+use model::numbers::MOST_TICKS;
+use model::numbers::MOST_WORDS;
+use model::numbers::STALLED;
+use model::numbers::UNKNOWN_OP;
 ghost use mathlib.Core.Path.{_≡_};
 ghost use mathlib.Core.Bool.{_&&_, cond};
 ghost use lib.Dec.{leb, eqb};
 ghost use Rattle.model.specs.declared.Control.{Control};
+ghost use Rattle.model.specs.Numbers.{mostWords, mostTicks, mostGates, stalled, unknownOp};
 ghost use Rattle.model.specs.Record.{isEmpty};
 ghost use Rattle.model.specs.WellFormed.{upcallWellFormed, callsWellFormed};
 ghost use Rattle.machine.specs.Answered.{controlAt, overGate};
 
 // The ranges of what no step changes.
 pub(crate) fn fixed_in_range(size: u32, limit: u32, count: u32) -> bool
-    ensures { λ r. ⌜ r ≡ (leb 1 size && leb size 2048 && leb 1 limit && leb limit (2 ^ 24) && leb count 8) ⌝ }
+    ensures { λ r. ⌜ r ≡ (leb 1 size && leb size mostWords && leb 1 limit && leb limit mostTicks && leb count mostGates) ⌝ }
 {
-    (1 <= size) & (size <= 2048) & (1 <= limit) & (limit <= 16777216) & (count <= 8)
+    (1 <= size)
+        & (size <= MOST_WORDS)
+        & (1 <= limit)
+        & (limit <= MOST_TICKS)
+        & (count <= MOST_GATES)
 }
 
 // End and why.
 pub(crate) fn end_in_range(end: u8, why: u8) -> bool
-    ensures { λ r. ⌜ r ≡ (leb end 3 && cond (eqb end 3) (leb 1 why && leb why 3) (eqb why 0)) ⌝ }
+    ensures { λ r. ⌜ r ≡ (leb end stalled && cond (eqb end stalled) (leb 1 why && leb why unknownOp) (eqb why 0)) ⌝ }
 {
-    if end <= 3 {
-        if end == 3 {
-            return (1 <= why) & (why <= 3);
+    if end <= STALLED {
+        if end == STALLED {
+            return (1 <= why) & (why <= UNKNOWN_OP);
         }
         return why == 0;
     }
@@ -42,6 +51,9 @@ fn is_absent(call: Call) -> bool
     }
 }
 
+// End ticks are below this number: 2^33.
+const END_TICKS: u64 = 8589934592;
+
 // What is asked of an upcall's kept pair and end tick.
 fn upcall_well_formed(p: u8, t: u8, clock: u32, kept: Pair, end: u64) -> bool
     ensures { λ r. ⌜ ((c : Control) → r ≡ upcallWellFormed (controlAt c p t clock) kept end) ⌝ }
@@ -52,7 +64,7 @@ fn upcall_well_formed(p: u8, t: u8, clock: u32, kept: Pair, end: u64) -> bool
         & q.flows_to(Label(p))
         & u.flows_to(Label(t))
         & (clock as u64 <= end)
-        & (end < 8589934592)
+        & (end < END_TICKS)
 }
 
 // The place above a gate call whose pair is valid or not.

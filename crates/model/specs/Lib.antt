@@ -1,12 +1,13 @@
--- The machine of document 01, in the paper's order: the record, when it is well-formed, a word of the program, the op
--- table, one step and the run, and what the public calls answer.
+-- The machine of document 01, in the paper's order: its numbers by name, the record, when it is well-formed, a word of the
+-- program, the op table, one step and the run, what the public calls answer, the text and its load, the listing, and what
+-- the programs print.
+pub mod Numbers
 pub mod Record
 pub mod WellFormed
 pub mod Word
 pub mod Ops
 pub mod Step
 pub mod Answer
-pub mod Letters
 pub mod Text
 pub mod Load
 pub mod Listing

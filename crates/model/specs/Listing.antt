@@ -18,7 +18,7 @@ use Rattle.model.specs.declared.Call.{Call}
 use Rattle.model.specs.declared.Call.the-variants.{Empty, Gate, Upcall}
 use Rattle.model.specs.Record.{Bank, Machine, State, stateOf}
 use Rattle.model.specs.WellFormed.{wellFormed, lentWhole}
-use Rattle.model.specs.Letters.{comma, lf, digitZero, letterE, letterF, letterR, letterW, gateKind, upcallKind}
+use Rattle.model.specs.Numbers.{comma, lf, digitZero, letterE, letterF, letterR, letterW, gateKind, upcallKind, registerCount}
 
 -- ---- a line
 
@@ -77,7 +77,7 @@ entryLines letter b k (suc n) =
 -- The listing: the E line and the F lines, then R lines and W lines.
 unfoldable pub listing : State → List ℕ
 listing s =
-    (headLines (s .control) ++ entryLines letterR (s .registers) 0 16) ++ entryLines letterW (s .memory) 0 (s .fixed .size)
+    (headLines (s .control) ++ entryLines letterR (s .registers) 0 registerCount) ++ entryLines letterW (s .memory) 0 (s .fixed .size)
 
 -- ---- the answer
 

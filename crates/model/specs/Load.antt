@@ -12,6 +12,7 @@ use Rattle.causes.specs.declared.Cause.the-variants.{TextLength, MalformedLine,
 use Rattle.causes.specs.declared.Outcome.{Outcome}
 use Rattle.causes.specs.declared.Outcome.the-variants.{Done, Refused}
 use Rattle.causes.specs.Tests.{unless, Test, _orElse_, firstRefusal}
+use Rattle.model.specs.Numbers.{mostWords, mostTicks, mostGates, registerCount, valueCount, longestText}
 use Rattle.model.specs.declared.Call.the-variants.{Empty}
 use Rattle.model.specs.declared.format.Line.{Line}
 use Rattle.model.specs.declared.format.Line.the-variants.{M, G, R, W, Malformed}
@@ -34,11 +35,11 @@ blank n = record { values = replicate n 0; labels = replicate n lowest }
 abbrev pub machineOfHeader : Header → Machine
 machineOfHeader h =
     record {
-      fixed = record { size = h .size; limit = h .limit; errorpc = h .errorpc; count = 0; gates = replicate 8 noGate };
+      fixed = record { size = h .size; limit = h .limit; errorpc = h .errorpc; count = 0; gates = replicate mostGates noGate };
       control =
           record
           { pc = h .pc; pair = record { pc = h .p; timing = h .t }; clock = 0; first = Empty; second = Empty; end = 0; why = 0 };
-      registers = blank 16;
+      registers = blank registerCount;
     }
 
 -- One more gate: gates are numbered from 0 in the order of their lines.
@@ -78,16 +79,16 @@ withLine r Malformed = r
 -- The numbers of an M line are in their ranges.
 unfoldable pub headerInRange : Header → Bool
 headerInRange h =
-    leb 1 (h .size) && leb (h .size) 2048 && ltb (h .errorpc) (2 ^ 32) && ltb (h .pc) (2 ^ 32) && isLabel (h .p)
-    && isLabel (h .t) && leb 1 (h .limit) && leb (h .limit) (2 ^ 24)
+    leb 1 (h .size) && leb (h .size) mostWords && ltb (h .errorpc) valueCount && ltb (h .pc) valueCount && isLabel (h .p)
+    && isLabel (h .t) && leb 1 (h .limit) && leb (h .limit) mostTicks
 
 -- The numbers of a G line are in their ranges, and it isn't the ninth.
 unfoldable pub gateInRange : ℕ → ℕ → ℕ → ℕ → Bool
-gateInRange count pc p t = ltb pc (2 ^ 32) && isLabel p && isLabel t && ltb count 8
+gateInRange count pc p t = ltb pc valueCount && isLabel p && isLabel t && ltb count mostGates
 
 -- The numbers of an R or W line are in their ranges: its register number or address is below the bound.
 unfoldable pub entryInRange : ℕ → ℕ → ℕ → ℕ → Bool
-entryInRange bound k l v = ltb k bound && isLabel l && ltb v (2 ^ 32)
+entryInRange bound k l v = ltb k bound && isLabel l && ltb v valueCount
 
 -- The kinds in their order.
 abbrev pub rank : Kind → ℕ
@@ -122,7 +123,7 @@ lineTests size count last (G pc p t) =
     ∷ []
 lineTests size count last (R k l v) =
     inOrder last RegisterLine orElse OutOfOrder
-    ∷ entryInRange 16 k l v orElse OutOfRange
+    ∷ entryInRange registerCount k l v orElse OutOfRange
     ∷ rising last RegisterLine k orElse OutOfOrder
     ∷ []
 lineTests size count last (W k l v) =
@@ -177,7 +178,7 @@ judgeLines (Malformed ∷ ls) m = refuse MalformedLine 1
 -- The verdict on a text: one that is empty or above 65,535 bytes is 1, with line 0.
 unfoldable pub judgeText : List ℕ → Bank → Verdict
 judgeText text m =
-    unless (leb 1 (length text) && leb (length text) 65535) (refuse TextLength 0) (judgeLines (lines text) m)
+    unless (leb 1 (length text) && leb (length text) longestText) (refuse TextLength 0) (judgeLines (lines text) m)
 
 -- ---- memory
 

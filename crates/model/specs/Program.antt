@@ -6,6 +6,7 @@ use mathlib.Core.List.{List, [], _∷_, _++_}
 use lib.Dec.{leb}
 use lib.ListN.{length, drop, replicate}
 use Rattle.causes.specs.Causes.{numberOf, isDone}
+use Rattle.model.specs.Numbers.{mostWords, letterX}
 use Rattle.model.specs.Record.{Bank, State, stateOf}
 use Rattle.model.specs.Step.{run}
 use Rattle.model.specs.Load.{Loading, load}
@@ -18,7 +19,7 @@ stateOfLoad a = stateOf (a .machine) (a .memory)
 -- What is printed after a load: the listing of the run to the end; for a refusal `X,number,line`.
 unfoldable pub reply : Loading → List ℕ
 reply a =
-    cond (isDone (a .outcome)) (listing (run (stateOfLoad a))) (line 88 (numberOf (a .outcome) ∷ a .line ∷ []))
+    cond (isDone (a .outcome)) (listing (run (stateOfLoad a))) (line letterX (numberOf (a .outcome) ∷ a .line ∷ []))
 
 -- The memory after it.
 unfoldable pub memoryAfter : Loading → Bank
@@ -49,7 +50,7 @@ fireWhole text m out =
 -- The memory of the program `firing`: 2,048 words and as many labels, the most that a machine can have, all 0 before the
 -- load.
 unfoldable pub programMemory : Bank
-programMemory = record { values = replicate 2048 0; labels = replicate 2048 0 }
+programMemory = record { values = replicate mostWords 0; labels = replicate mostWords 0 }
 
 -- What the program prints: how many bytes, and the output that holds them at its start.
 pub record Replied : Type 0 where

@@ -5,6 +5,7 @@ use mathlib.Core.Path.{_≡_}
 use mathlib.Core.Bool.{Bool, _&&_, cond}
 use lib.Dec.{ltb}
 use Rattle.labels.specs.Label.{flows}
+use Rattle.model.specs.Numbers.{registerCount}
 use Rattle.model.specs.declared.Control.{Control}
 use Rattle.model.specs.Record.{State, Location, register, word, valueAt, labelAt}
 
@@ -14,7 +15,7 @@ within ℓ l = flows l ℓ
 
 -- The location is one of the sixteen registers, or a word below the record's own size.
 unfoldable pub exists : State → Location → Bool
-exists s (register k) = ltb k 16
+exists s (register k) = ltb k registerCount
 exists s (word k) = ltb k (s .fixed .size)
 
 -- What is seen of a location: nothing, or its label and value.

@@ -8,6 +8,7 @@ use lib.Dec.{ltb, eqb}
 use lib.ListN.{set}
 use Rattle.labels.specs.Label.{flows}
 use Rattle.causes.specs.Tests.{unless}
+use Rattle.model.specs.Numbers.{halted, clockSpent, stalled, outsideMemory, unreadable, unknownOp, byItsEnd, bySpentTime, byFailure}
 use Rattle.model.specs.declared.Pair.{Pair}
 use Rattle.model.specs.declared.Control.{Control}
 use Rattle.model.specs.declared.Call.{Call}
@@ -25,7 +26,7 @@ pub data Fetched : Type 0 where
 
 -- The op is unknown: why 3.
 abbrev pub known : ℕ → Option Op → Fetched
-known w none = failed 3
+known w none = failed unknownOp
 known w (some op) = fetched w op
 
 -- The label of the word at the pc flows to p.
@@ -36,8 +37,8 @@ fetchAllowed s = flows (labelAt s (word (s .control .pc))) (s .control .pair .pc
 -- (3), tried in that order.
 unfoldable pub fetch : State → Fetched
 fetch s =
-    unless (ltb (s .control .pc) (s .fixed .size)) (failed 1)
-    (unless (fetchAllowed s) (failed 2)
+    unless (ltb (s .control .pc) (s .fixed .size)) (failed outsideMemory)
+    (unless (fetchAllowed s) (failed unreadable)
     (known (valueAt s (word (s .control .pc))) (decode (opField (valueAt s (word (s .control .pc)))))))
 
 -- ---- the first stage: what a step would do
@@ -71,19 +72,19 @@ finish s (carry ticks change) = s .control .clock + ticks
 -- stands there already the run ends.
 unfoldable pub fault : State → ℕ → Decision
 fault s why =
-    cond (inUpcall (s .control)) (close 3)
+    cond (inUpcall (s .control)) (close byFailure)
     (cond (eqb (s .control .pc) (s .fixed .errorpc)) (stall why) (carry 1 (goto (s .fixed .errorpc))))
 
 -- An op that passes its check: its change in its ticks, or the end of the upcall with cause 1.
 abbrev pub passed : ℕ → Effect → Decision
 passed ticks (does change) = carry ticks change
-passed ticks ends = close 1
+passed ticks ends = close byItsEnd
 
 -- A failed check only adds 1 to the pc, in the same ticks; of a strict op it closes an upcall with cause 3.
 unfoldable pub attempt : State → Row → Decision
 attempt s r =
     cond (r .check) (passed (r .ticks) (r .effect))
-    (cond (r .strict && inUpcall (s .control)) (close 3) (carry (r .ticks) (write nothing)))
+    (cond (r .strict && inUpcall (s .control)) (close byFailure) (carry (r .ticks) (write nothing)))
 
 -- In an upcall an op that would finish past the end tick isn't carried out: cause 2. A departure: spent time goes to the
 -- return pc, not to a handler.
@@ -93,7 +94,7 @@ inTime s spend = spend
 inTime s (stall why) = stall why
 inTime s (close cause) = close cause
 inTime s (carry ticks change) =
-    cond (inUpcall (s .control) && ltb (endTick s) (s .control .clock + ticks)) (close 2) (carry ticks change)
+    cond (inUpcall (s .control) && ltb (endTick s) (s .control .clock + ticks)) (close bySpentTime) (carry ticks change)
 
 -- What a running record would do, were it not for the limit.
 abbrev pub plan : State → Fetched → Decision
@@ -207,13 +208,13 @@ changed c clock (enter q) = entered c clock (c .pc + 1) q
 changed c clock (openUpcall k q e) = entered (opened c (Upcall k (c .pair) e)) clock (c .pc + 1) q
 changed c clock (openGate g) = entered (opened c (Gate (c .pc + 1) (c .pair))) clock (g .entry) (g .pair)
 changed c clock closeGate = restored c clock
-changed c clock stop = ended c clock 1 0
+changed c clock stop = ended c clock halted 0
 
 -- The control after a decision.
 unfoldable pub controlAfter : State → Decision → Control
 controlAfter s rest = s .control
-controlAfter s spend = ended (s .control) (s .fixed .limit) 2 0
-controlAfter s (stall why) = ended (s .control) (s .control .clock) 3 why
+controlAfter s spend = ended (s .control) (s .fixed .limit) clockSpent 0
+controlAfter s (stall why) = ended (s .control) (s .control .clock) stalled why
 controlAfter s (close cause) = restored (s .control) (closingTick s)
 controlAfter s (carry ticks change) = changed (s .control) (s .control .clock + ticks) change
 

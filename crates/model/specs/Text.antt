@@ -11,7 +11,7 @@ use Rattle.model.specs.declared.format.Number.the-variants.{Value, Bad a
 use Rattle.model.specs.declared.format.Line.{Line}
 use Rattle.model.specs.declared.format.Line.the-variants.{M, G, R, W, Malformed}
 use Rattle.model.specs.declared.format.Read.{Read}
-use Rattle.model.specs.Letters.{comma, lf, digitZero, digitNine, letterM, letterG, letterR, letterW, mostDigits}
+use Rattle.model.specs.Numbers.{comma, lf, digitZero, digitNine, letterM, letterG, letterR, letterW, mostDigits}
 
 -- ---- numbers
 

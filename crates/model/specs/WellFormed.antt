@@ -6,6 +6,7 @@ use mathlib.Core.List.{List}
 use lib.Dec.{leb, ltb, eqb}
 use lib.ListN.{length}
 use Rattle.labels.specs.Label.{flows, validPair}
+use Rattle.model.specs.Numbers.{mostWords, mostTicks, mostGates, stalled, unknownOp}
 use Rattle.model.specs.declared.Pair.{Pair}
 use Rattle.model.specs.declared.Fixed.{Fixed}
 use Rattle.model.specs.declared.Control.{Control}
@@ -19,11 +20,11 @@ isValid q = validPair (q .pc) (q .timing)
 
 -- The ranges of what no step changes: size 1 to 2,048 words, limit 1 to 16,777,216 ticks, up to eight gates.
 unfoldable pub fixedInRange : Fixed → Bool
-fixedInRange f = leb 1 (f .size) && leb (f .size) 2048 && leb 1 (f .limit) && leb (f .limit) (2 ^ 24) && leb (f .count) 8
+fixedInRange f = leb 1 (f .size) && leb (f .size) mostWords && leb 1 (f .limit) && leb (f .limit) mostTicks && leb (f .count) mostGates
 
 -- End is 0 to 3; why is 1 to 3 at end 3, else 0.
 unfoldable pub endInRange : Control → Bool
-endInRange c = leb (c .end) 3 && cond (eqb (c .end) 3) (leb 1 (c .why) && leb (c .why) 3) (eqb (c .why) 0)
+endInRange c = leb (c .end) stalled && cond (eqb (c .end) stalled) (leb 1 (c .why) && leb (c .why) unknownOp) (eqb (c .why) 0)
 
 -- What is asked of an upcall's kept pair q and end tick e: the pair is valid, its labels flow to the current ones, and
 -- the end tick is at least the clock and below 2^33.

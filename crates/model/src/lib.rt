@@ -3,6 +3,7 @@
 
 pub mod format;
 pub mod judging;
+pub mod numbers;
 
 // A pc label and a timing label (the paper's place label p and clock label t).
 pub struct Pair {

@@ -5,7 +5,7 @@ ghost use mathlib.Core.Bool.{_&&_};
 ghost use Prim.Native.Nat.{_+_, _*_, _≤_};
 ghost use lib.Dec.{leb};
 ghost use lib.ListN.{length};
-ghost use Rattle.model.specs.Letters.{mostFields};
+ghost use Rattle.model.specs.Numbers.{mostFields};
 ghost use Rattle.model.specs.Listing.{line, endFields, callFields, callLine, headLines, isListed, entryLine, entryLines, listing};
 ghost use Rattle.model.specs.Listing.{print as Listing·print};
 ghost use Rattle.machine.specs.Answered.{recordOf};
@@ -34,7 +34,7 @@ const GATE: u64 = 1;
 const UPCALL: u64 = 2;
 
 // How many registers there are.
-const REGISTERS: usize = 16;
+const REGISTER_COUNT: usize = 16;
 
 // The outcome, how many bytes were written, and the record as it was given.
 pub struct Printed {
@@ -117,7 +117,7 @@ fn write_listing(out: &mut [u8], machine: Machine, words: &[u32], labels: &[u8])
     let marks = machine.labels;
     let size = machine.fixed.size as usize;
     let mut at = write_head(out, control);
-    at = write_entries(out, at, R, &values, &marks, REGISTERS);
+    at = write_entries(out, at, R, &values, &marks, REGISTER_COUNT);
     write_entries(out, at, W, words, labels, size)
 }
 

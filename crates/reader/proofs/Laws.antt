@@ -19,7 +19,7 @@ use Rattle.model.specs.declared.format.Line.{Line}
 use Rattle.model.specs.declared.format.Line.the-variants.{Malformed}
 use Rattle.model.specs.declared.format.Read.{Read}
 use Rattle.model.specs.declared.format.Span.{Span}
-use Rattle.model.specs.Letters.{letterM, letterG, letterR, letterW}
+use Rattle.model.specs.Numbers.{letterM, letterG, letterR, letterW}
 use Rattle.model.specs.Text.{isDigit, digits, decimalFrom, wellWritten, number, field, Fields, Values, BadFields, withField, nextField, readFields, fieldCount, lineOf, closed, malformed, withFields, readLine}
 use Rattle.model.proofs.Truth.{choice, either, and-iff}
 use Rattle.reader.specs.Reading.{fieldsOf}

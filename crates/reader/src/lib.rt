@@ -13,7 +13,7 @@ ghost use mathlib.Core.Bool.{_&&_};
 ghost use Prim.Native.Nat.{_+_, _-_, _≤_};
 ghost use lib.Dec.{ltb};
 ghost use lib.ListN.{length, getD};
-ghost use Rattle.model.specs.Letters.{digitZero, mostDigits};
+ghost use Rattle.model.specs.Numbers.{digitZero, mostDigits};
 ghost use Rattle.model.specs.Text.{isDigit, number, field, readFields, fieldCount, lineOf, closed, readLine};
 ghost use Rattle.reader.specs.Reading.{fieldsOf};
 

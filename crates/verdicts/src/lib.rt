@@ -14,22 +14,22 @@ ghost use Rattle.model.specs.Load.{headerInRange, gateInRange, entryInRange, ra
 ghost use Rattle.verdicts.specs.Verdicts.{gateTests, entryTests};
 
 // The most words of a machine.
-const LARGEST_SIZE: u64 = 2048;
+const MOST_WORDS: u64 = 2048;
 
 // The most ticks of a limit.
-const LARGEST_LIMIT: u64 = 16777216;
+const MOST_TICKS: u64 = 16777216;
 
 // Values and pcs are below this number.
-const VALUES: u64 = 4294967296;
+const VALUE_COUNT: u64 = 4294967296;
 
 // Labels are below this number.
-const LABELS: u64 = 256;
+const LABEL_COUNT: u64 = 256;
 
 // How many gates there may be.
-const GATES: u32 = 8;
+const MOST_GATES: u32 = 8;
 
 // How many registers there are.
-const REGISTERS: u32 = 16;
+const REGISTER_COUNT: u32 = 16;
 
 // What the line behind the M line is tried against.
 pub const BEHIND_HEADER: Last = Last {
@@ -42,27 +42,27 @@ fn header_in_range(header: Header) -> bool
     ensures { λ r. ⌜ r ≡ headerInRange header ⌝ }
 {
     (1 <= header.size)
-        & (header.size <= LARGEST_SIZE)
-        & (header.errorpc < VALUES)
-        & (header.pc < VALUES)
-        & (header.p < LABELS)
-        & (header.t < LABELS)
+        & (header.size <= MOST_WORDS)
+        & (header.errorpc < VALUE_COUNT)
+        & (header.pc < VALUE_COUNT)
+        & (header.p < LABEL_COUNT)
+        & (header.t < LABEL_COUNT)
         & (1 <= header.limit)
-        & (header.limit <= LARGEST_LIMIT)
+        & (header.limit <= MOST_TICKS)
 }
 
 // Whether the numbers of a G line are in their ranges, and it isn't the ninth.
 fn gate_in_range(count: u32, pc: u64, p: u64, t: u64) -> bool
     ensures { λ r. ⌜ r ≡ gateInRange count pc p t ⌝ }
 {
-    (pc < VALUES) & (p < LABELS) & (t < LABELS) & (count < GATES)
+    (pc < VALUE_COUNT) & (p < LABEL_COUNT) & (t < LABEL_COUNT) & (count < MOST_GATES)
 }
 
 // Whether the numbers of an R or W line are in their ranges.
 fn entry_in_range(bound: u32, k: u64, label: u64, value: u64) -> bool
     ensures { λ r. ⌜ r ≡ entryInRange bound k label value ⌝ }
 {
-    (k < bound as u64) & (label < LABELS) & (value < VALUES)
+    (k < bound as u64) & (label < LABEL_COUNT) & (value < VALUE_COUNT)
 }
 
 // The place of a kind in the order of kinds.
@@ -148,7 +148,7 @@ pub fn line_verdict(size: u32, count: u32, last: Last, line: Line) -> Outcome
         Line::G(pc, p, t) => gate_verdict(count, last, pc, p, t),
         Line::R(k, label, value) => entry_verdict(
             Kind::RegisterLine,
-            REGISTERS,
+            REGISTER_COUNT,
             last,
             k,
             label,

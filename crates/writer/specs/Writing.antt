@@ -6,7 +6,7 @@ use mathlib.Core.Bool.{cond}
 use mathlib.Core.List.{List, _++_}
 use lib.Dec.{leb}
 use lib.ListN.{length, drop}
-use Rattle.model.specs.Letters.{mostFields}
+use Rattle.model.specs.Numbers.{mostFields}
 use Rattle.model.specs.Listing.{line}
 
 -- A text written over the beginning of an output: what stands behind it stays.

@@ -7,7 +7,7 @@ ghost use mathlib.Core.Path.{_≡_};
 ghost use mathlib.Core.List.{_∷_};
 ghost use Prim.Native.Nat.{_≤_, _<_};
 ghost use lib.ListN.{length};
-ghost use Rattle.model.specs.Letters.{comma, mostFields};
+ghost use Rattle.model.specs.Numbers.{comma, mostFields};
 ghost use Rattle.model.specs.Listing.{decimal, fields};
 ghost use Rattle.writer.specs.Writing.{Wrote, answer, writing};
 

@@ -3,7 +3,7 @@
 use Prim.Native.Nat.{_≤_}
 use native.Mathlib.Omega.{arith}
 use borrow.Author.Needs.{needs}
-use Rattle.model.specs.Letters.{letterE}
+use Rattle.model.specs.Numbers.{letterE}
 use Rattle.model.specs.Listing.{line, endFields, headLines}
 use Rattle.writer.proofs.Fields.{line-most}
 use Rattle.printer.specs.Printing.{Placed}

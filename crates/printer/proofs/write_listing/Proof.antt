@@ -5,7 +5,7 @@ use mathlib.Core.Path.{_≡_, sym}
 use native.Mathlib.Omega.{arith}
 use lib.ListN.{length}
 use borrow.Author.Needs.{length-unmapped, needs}
-use Rattle.model.specs.Letters.{letterR, letterW}
+use Rattle.model.specs.Numbers.{letterR, letterW}
 use Rattle.model.specs.Record.{stateOf, State}
 use Rattle.model.specs.Listing.{entryLines, listing}
 use Rattle.machine.specs.Answered.{recordOf}

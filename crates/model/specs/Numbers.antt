@@ -1,6 +1,68 @@
--- The letters and limits of the text format: document 01, "Text". Text and Listing name them from here.
+-- The numbers and letters of document 01, each with its name. The code gives its constants the same names.
 -- Assumes nothing.
-use Prim.Native.Nat.{ℕ}
+use Prim.Native.Nat.{ℕ, _^_}
+
+-- ---- the record
+
+-- The most words of memory.
+abbrev pub mostWords : ℕ
+mostWords = 2048
+
+-- The most ticks of a limit.
+abbrev pub mostTicks : ℕ
+mostTicks = 2 ^ 24
+
+-- The most gates.
+abbrev pub mostGates : ℕ
+mostGates = 8
+
+-- How many registers there are.
+abbrev pub registerCount : ℕ
+registerCount = 16
+
+-- Values and pcs are below this number.
+abbrev pub valueCount : ℕ
+valueCount = 2 ^ 32
+
+-- ---- how a run ended, and why it stalled
+
+-- End 1: halted.
+abbrev pub halted : ℕ
+halted = 1
+
+-- End 2: the clock is spent.
+abbrev pub clockSpent : ℕ
+clockSpent = 2
+
+-- End 3: stalled.
+abbrev pub stalled : ℕ
+stalled = 3
+
+-- Why 1: the pc is not below the size.
+abbrev pub outsideMemory : ℕ
+outsideMemory = 1
+
+-- Why 2: the word's label doesn't flow to p.
+abbrev pub unreadable : ℕ
+unreadable = 2
+
+-- Why 3: the op is unknown.
+abbrev pub unknownOp : ℕ
+unknownOp = 3
+
+-- ---- why an upcall was closed
+
+-- Cause 1: op 19.
+abbrev pub byItsEnd : ℕ
+byItsEnd = 1
+
+-- Cause 2: its time was spent.
+abbrev pub bySpentTime : ℕ
+bySpentTime = 2
+
+-- Cause 3: a failed fetch, branch or jump, or a halt.
+abbrev pub byFailure : ℕ
+byFailure = 3
 
 -- ---- letters, by their bytes
 

@@ -1,0 +1,16 @@
+// The ranges of the record, under the names of specs/Numbers.antt.
+
+// The most words of memory.
+pub const MOST_WORDS: u32 = 2048;
+
+// The most ticks of a limit: 2^24.
+pub const MOST_TICKS: u32 = 16777216;
+
+// The most gates.
+pub const MOST_GATES: u32 = 8;
+
+// End 3, the last of the ends.
+pub const STALLED: u8 = 3;
+
+// Why 3, the last of the whys.
+pub const UNKNOWN_OP: u8 = 3;
