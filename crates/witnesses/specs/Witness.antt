@@ -157,8 +157,8 @@ abbrev pub twice : ℕ → Pair
 twice l = record { pc = l; timing = l }
 
 -- A setting: size, limit, error pc, how many of the gates there are, and the first gate's pc. The second gate goes to 3, both
--- under the pair of 240 and 240, and the third to 2 under that of 255 and 255. Label 255, trusted by all and secret to all,
--- is outside 240 and outside 18.
+-- under the pair of 240 and 240, and the third to 2 under that of 255 and 255. Label 255, trusted by all
+-- and holding the secrets of all, is outside 240 and outside 18.
 abbrev pub fixedOf : ℕ → ℕ → ℕ → ℕ → ℕ → Fixed
 fixedOf size limit errorpc count entry =
     record {

@@ -42,13 +42,14 @@ same-length-3 c = search needs
 returns : tie.Need-returns
 returns c =
     let written = c .before .before in
-    let told = written .before .before .before .before .before in
+    let numbered = written .before .before .before in
+    let told = numbered .before in
     let loaded = told .before .before .before .before .before .before in
     let start = loaded .before .before .before .before .before .before .before in
     refused-firing (start .args .text .now) (lent (start .args .words .now) (start .args .labels .now))
     (start .args .out .now) _ (loaded .load .ensures)
     (answer (written .write-refusal .result) (written .write-refusal .last .0)) (ap isDone (told .enum-told2 .given .1))
-    (written .before .before .before .before .number .ensures) refl (written .write-refusal .ensures)
+    (numbered .number .ensures) refl (written .write-refusal .ensures)
 
 run-requires : tie.Need-run-requires
 run-requires c κs = search needs
