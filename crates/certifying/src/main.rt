@@ -29,8 +29,8 @@ fn label_of(word: &[u8]) -> Named {
     let Number::Value(value, next) = read_number(word) else {
         return Named::Nothing;
     };
-    // A number's reader also counts the byte before it, a comma in a text.
-    if next - 1 < word.len() {
+    // What stands behind a number begins one byte before `next`, which also counts the comma before a field.
+    if next <= word.len() {
         return Named::Nothing;
     }
     if value < LABELS {
