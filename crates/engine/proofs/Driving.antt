@@ -2,10 +2,10 @@
 -- Assumes nothing.
 use Prim.Native.Nat.{ℕ, zero, suc, _-_, _≤_, _<_}
 use mathlib.Core.Path.{_≡_, refl, sym, ap, _∙_, subst}
-use mathlib.Core.Bool.{Bool, true, false, _||_}
+use mathlib.Core.Bool.{Bool, true, false, _&&_, _||_, or-false}
 use mathlib.Core.List.{List, []}
 use native.Mathlib.Omega.{arith}
-use lib.Dec.{eqb}
+use lib.Dec.{ltb, eqb}
 use borrow.Author.Tests.{ne-eqb, eqb-true, eqb-false, leb-true, le-leb}
 use lib.ListN.{length}
 use Rattle.model.specs.declared.CallGate.{CallGate}
@@ -19,16 +19,17 @@ use Rattle.engine.specs.declared.steps.common.Stop.{Stop}
 use Rattle.engine.specs.declared.steps.common.Stop.the-variants.{Out, Late, Outside, Unreadable, Failed, Rest}
 use Rattle.engine.specs.declared.steps.common.Pause.{Pause}
 use Rattle.engine.specs.declared.steps.common.Context.{Context}
+use Rattle.engine.specs.declared.steps.drive.Halted.{Halted}
 use Rattle.engine.specs.declared.steps.rest.Verdict.{Verdict}
 use Rattle.engine.specs.declared.steps.rest.Verdict.the-variants.{Spend, Stall, Close, Carry}
 use Rattle.engine.specs.Common.{view, deadlineOf, Timed, Stopped}
 use Rattle.engine.specs.Sprint.{Paused, Sprinted}
 use Rattle.engine.specs.Rest.{newestOf, Ready, Held, Admits, Decided}
 use Rattle.engine.specs.Apply.{Wrote, controlOf, Controlled}
-use Rattle.engine.specs.Drive.{stateFrom, contextOf, fitting, advanced, skimmed as skimmedOf, Fit, Driven}
-use Rattle.engine.specs.Skim.{Skim, skim}
+use Rattle.engine.specs.Drive.{stateFrom, contextOf, fitting, advanced, strode, Fit, Driven, relabelsAt, endsAt}
+use Rattle.engine.specs.Skim.{Skim, skim, ends, stride}
 use Rattle.engine.proofs.Loop.{steps-one}
-use Rattle.engine.proofs.Skimming.{skim-steps, skim-ended, skim-none, skim-paused}
+use Rattle.engine.proofs.Skimming.{skim-steps, skim-ended, skim-none, skim-paused, ends-paused, stride-ends, stride-goes, ends-first, ends-none}
 
 -- ---- an ended state
 
@@ -79,38 +80,44 @@ admits-held (Carry k act) pc clock limit e h = h .1
 -- ---- the loop
 
 -- What holds at the loop's test.
-pub record Went (fixed : Fixed) (start : Control) (count : ℕ) (alone : Bool) (values₀ labels₀ words₀ marks : List ℕ) (control : Control) (left : ℕ) (values labels words : List ℕ) : Type 0 where
+pub record Went (fixed : Fixed) (start : Control) (count : ℕ) (once : Bool) (values₀ labels₀ words₀ marks : List ℕ) (control : Control) (left : ℕ) (values labels words : List ℕ) : Type 0 where
   pub run :
       steps count (stateFrom fixed start values₀ labels₀ words₀ marks)
       ≡ steps left (stateFrom fixed control values labels words marks)
-  pub skims :
-      alone ≡ true
-      → skim count (stateFrom fixed start values₀ labels₀ words₀ marks) ≡ skim left (stateFrom fixed control values labels words marks)
+  pub strides :
+      once ≡ true
+      → stride count (stateFrom fixed start values₀ labels₀ words₀ marks) ≡ stride left (stateFrom fixed control values labels words marks)
   pub fit : Fit fixed control words marks
   pub long : length words ≡ length words₀
 
-pub went-none : {fixed : Fixed} {start : Control} {count : ℕ} {alone : Bool} {values labels words marks : List ℕ} → Fit fixed start words marks
-    → Went fixed start count alone values labels words marks start count values labels words
-went-none h = record { run = refl; skims = λ a. refl; fit = h; long = refl }
+pub went-none : {fixed : Fixed} {start : Control} {count : ℕ} {once : Bool} {values labels words marks : List ℕ} → Fit fixed start words marks
+    → Went fixed start count once values labels words marks start count values labels words
+went-none h = record { run = refl; strides = λ a. refl; fit = h; long = refl }
 
-module _ {fixed : Fixed} {start : Control} {count : ℕ} {alone : Bool} {values₀ labels₀ words₀ marks : List ℕ} {control : Control} {left : ℕ} {values labels words : List ℕ} (h : Went fixed start count alone values₀ labels₀ words₀ marks control left values labels words) where
-  pub went-ended : 0 < control .end
-      → Driven fixed start count alone values₀ labels₀ words₀ marks (record { control = control; left = left }) values labels words
-  went-ended e =
-      record {
-        all = λ a. sym (h .run ∙ ended-steps left (stateFrom fixed control values labels words marks) e);
-        common = λ a. sym (h .skims a ∙ skim-ended left (stateFrom fixed control values labels words marks) e);
-      }
+module _ {fixed : Fixed} {start : Control} {count : ℕ} {once : Bool} {values₀ labels₀ words₀ marks : List ℕ} {control : Control} {left : ℕ} {values labels words : List ℕ} (h : Went fixed start count once values₀ labels₀ words₀ marks control left values labels words) where
+  abbrev now : State
+  now = stateFrom fixed control values labels words marks
 
-  pub went-out : left ≤ 0
-      → Driven fixed start count alone values₀ labels₀ words₀ marks (record { control = control; left = left }) values labels words
-  went-out e =
+  pub went-ended : {r : Halted} → 0 < left → 0 < control .end → r ≡ record { control = control; left = left - 1 }
+      → Driven fixed start count once values₀ labels₀ words₀ marks r values labels words
+  went-ended more e q =
+      rw q (record {
+        all = λ a. sym (h .run ∙ ended-steps left now e);
+        one =
+            λ a.
+            sym
+            (h .strides a ∙ stride-goes left now (skim-ended left now e) (ends-first left now more)
+            ∙ ap (λ (s : State). record { state = s; left = left - 1 }) (ended-step now e));
+      })
+
+  pub went-out : {r : Halted} → left ≤ 0 → r ≡ record { control = control; left = left }
+      → Driven fixed start count once values₀ labels₀ words₀ marks r values labels words
+  went-out e q =
       let none : left ≡ 0 = omega arith in
-      record {
-        all =
-            λ a. sym (h .run ∙ ap (λ (n : ℕ). steps n (stateFrom fixed control values labels words marks)) none ∙ steps-none _);
-        common = λ a. sym (h .skims a ∙ skim-none left (stateFrom fixed control values labels words marks) none);
-      }
+      rw q (record {
+        all = λ a. sym (h .run ∙ ap (λ (n : ℕ). steps n now) none ∙ steps-none _);
+        one = λ a. sym (h .strides a ∙ stride-ends left now (skim-none left now none) (ends-none left now none));
+      })
 
   module _ (runs : control .end ≤ 0) {call : Call} (c : call ≡ newestOf (control .first) (control .second)) {context : Context} (u : context ≡ contextOf (fixed .size) (fixed .limit) (control .pair) call) where
     timed : Timed (stateFrom fixed control values labels words marks) (context .up) (context .deadline)
@@ -140,19 +147,30 @@ module _ {fixed : Fixed} {start : Control} {count : ℕ} {alone : Bool} {values�
           skim-steps left (stateFrom fixed control values labels words marks)
           ∙ ap (λ (k : Skim). steps (k .left) (k .state)) skimmed
 
-      -- The hot loop was all that was asked for, or no step is left after it.
-      pub went-paused : {r : Control} → r ≡ controlOf (pause .pc) (control .pair) (pause .clock) (control .first) (control .second) (control .end) (control .why)
-          → (alone || eqb (pause .left) 0) ≡ true
-          → Driven fixed start count alone values₀ labels₀ words₀ marks (record { control = r; left = pause .left }) values′ labels words′
-      went-paused f e =
-          rw f (record {
+      -- Whether the steps end there.
+      ends-there : {test : Bool} → test ≡ endsAt once left (pause .left) (pause .stop) → once ≡ true
+          → test ≡ ends left (record { state = there; left = pause .left })
+      ends-there e a =
+          e ∙ ap (λ (b : Bool). endsAt b left (pause .left) (pause .stop)) a
+          ∙ ends-paused (pause .stop) left (pause .left) there (p .paused (stateFrom fixed control values labels words marks) timed)
+
+      -- They do.
+      pub went-paused : {there′ : Control} {r : Halted} {test : Bool} → there′ ≡ controlOf (pause .pc) (control .pair) (pause .clock) (control .first) (control .second) (control .end) (control .why)
+          → r ≡ record { control = there′; left = pause .left }
+          → test ≡ endsAt once left (pause .left) (pause .stop) → test ≡ true
+          → Driven fixed start count once values₀ labels₀ words₀ marks r values′ labels words′
+      went-paused f q e passed =
+          rw (q, f) (record {
             all =
                 λ a.
                 sym
-                (h .run ∙ steps-there ∙ ap (λ (n : ℕ). steps n there) (eqb-true (pause .left) 0 (rw a at e))
+                (h .run ∙ steps-there ∙ ap (λ (n : ℕ). steps n there) (none-left (pause .left) once a (sym e ∙ passed))
                 ∙ steps-none _);
-            common = λ a. sym (h .skims a ∙ skimmed);
+            one = λ a. sym (h .strides a ∙ stride-ends left now skimmed (sym (ends-there e a) ∙ passed));
           })
+        where
+          none-left : (n : ℕ) (b : Bool) → b ≡ false → endsAt b left n (pause .stop) ≡ true → n ≡ 0
+          none-left n b a x = eqb-true n 0 (sym (or-false (eqb n 0)) ∙ (rw a at x))
 
       newest-there : newest (view (stateFrom fixed control values labels words marks) (fixed .size) (control .pair .pc) (control .pair .timing) (pause .pc) (pause .clock) values′ labels words′ marks .control) ≡ call
       unfolding newest
@@ -165,42 +183,48 @@ module _ {fixed : Fixed} {start : Control} {count : ℕ} {alone : Bool} {values�
         pub ready-there : Ready (pause .stop) (pause .pc)
         ready-there = ready-of (pause .stop) _ (h .fit .size) stopped-there
 
-        -- After one step of what the hot loop stopped at.
-        pub went-more : {verdict : Verdict} {values″ labels″ : List ℕ} {control′ : Control} → alone ≡ false
-            → Decided (pause .stop) (pause .pc) (fixed .errorpc) (fixed .limit) (control .pair .pc) (control .pair .timing) (pause .clock) call (fixed .count) (fixed .gates) values′ labels verdict
-            → Wrote verdict (control .pair .timing) values′ labels values″ labels″
-            → Controlled (control .pair) (control .first) (control .second) (control .end) (control .why) (pause .pc) (pause .clock) (fixed .limit) verdict control′
-            → pause .clock ≤ fixed .limit → length words′ ≡ length words
-            → Went fixed start count alone values₀ labels₀ words₀ marks control′ (pause .left - 1) values″ labels″ words′
-        went-more {verdict} {values″} {labels″} {control′} busy a b k within same =
-            record {
-              run =
-                  h .run ∙ steps-there ∙ steps-one (pause .left) _ more
-                  ∙ ap (steps (pause .left - 1))
-                  (step-from _ _ control′
-                  (a .is
-                  (view (stateFrom fixed control values labels words marks) (fixed .size) (control .pair .pc) (control .pair .timing) (pause .pc) (pause .clock) values′ labels words′ marks)
-                  (timed .running) newest-there stopped-there)
-                  (b .is (view (stateFrom fixed control values labels words marks) (fixed .size) (control .pair .pc) (control .pair .timing) (pause .pc) (pause .clock) values′ labels words′ marks))
-                  (k .is (view (stateFrom fixed control values labels words marks) (fixed .size) (control .pair .pc) (control .pair .timing) (pause .pc) (pause .clock) values′ labels words′ marks)));
-              skims = λ x. clash x busy;
-              fit =
-                  record {
-                    size = h .fit .size;
-                    limit = h .fit .limit;
-                    gates = h .fit .gates;
-                    clock = k .bounded within;
-                    words = rw same (h .fit .words);
-                    marks = h .fit .marks;
-                  };
-              long = same ∙ h .long;
-            }
+        -- One step of what the hot loop stopped at.
+        module _ {verdict : Verdict} {values″ labels″ : List ℕ} {control′ : Control} (a : Decided (pause .stop) (pause .pc) (fixed .errorpc) (fixed .limit) (control .pair .pc) (control .pair .timing) (pause .clock) call (fixed .count) (fixed .gates) values′ labels verdict) (b : Wrote verdict (control .pair .timing) values′ labels values″ labels″) (k : Controlled (control .pair) (control .first) (control .second) (control .end) (control .why) (pause .pc) (pause .clock) (fixed .limit) verdict control′) where
+          stepped : step there ≡ stateFrom fixed control′ values″ labels″ words′ marks
+          stepped = step-from _ _ control′ (a .is there (timed .running) newest-there stopped-there) (b .is there) (k .is there)
 
--- The hot loop has paused with a step left, and that step is asked for.
-pub busy-there : (alone : Bool) (n : ℕ) → (alone || eqb n 0) ≡ false → (alone ≡ false) × (0 < n)
-busy-there alone n e =
-    let h = or-iff alone (eqb n 0) .0 e in
-    let d : n ≡ 0 → ⊥ = eqb-false n 0 (h .1) in (h .0, above n d)
+          -- It was all that was asked for.
+          pub went-once : {r : Halted} {test : Bool} → test ≡ endsAt once left (pause .left) (pause .stop) → test ≡ false → once ≡ true
+              → r ≡ record { control = control′; left = pause .left - 1 }
+              → Driven fixed start count once values₀ labels₀ words₀ marks r values″ labels″ words′
+          went-once e failed all q =
+              rw q (record {
+                all = λ x. clash all x;
+                one =
+                    λ x.
+                    sym
+                    (h .strides x ∙ stride-goes left now skimmed (sym (ends-there e x) ∙ failed)
+                    ∙ ap (λ (s : State). record { state = s; left = pause .left - 1 }) stepped);
+              })
+
+          -- It was not.
+          pub went-more : once ≡ false → pause .clock ≤ fixed .limit → length words′ ≡ length words
+              → Went fixed start count once values₀ labels₀ words₀ marks control′ (pause .left - 1) values″ labels″ words′
+          went-more busy within same =
+              record {
+                run = h .run ∙ steps-there ∙ steps-one (pause .left) _ more ∙ ap (steps (pause .left - 1)) stepped;
+                strides = λ x. clash x busy;
+                fit =
+                    record {
+                      size = h .fit .size;
+                      limit = h .fit .limit;
+                      gates = h .fit .gates;
+                      clock = k .bounded within;
+                      words = rw same (h .fit .words);
+                      marks = h .fit .marks;
+                    };
+                long = same ∙ h .long;
+              }
+
+-- Where the steps don't end there, a step is left.
+pub busy-there : (once : Bool) (n left : ℕ) (stop : Stop) {test : Bool} → test ≡ endsAt once n left stop → test ≡ false → 0 < left
+busy-there once n left stop e f =
+    let d : left ≡ 0 → ⊥ = eqb-false left 0 (or-iff (eqb left 0) (once && ltb left n && relabelsAt stop) .0 (sym e ∙ f) .0) in above left d
   where
     above : (n : ℕ) → (n ≡ 0 → ⊥) → 0 < n
     above zero d = absurd (d refl)
@@ -235,7 +259,7 @@ module _ {fixed : Fixed} {control : Control} {words marks : List ℕ} where
   advanced-there n values labels h =
       rw (le-leb _ _ (h .size), le-leb _ _ (h .limit), le-leb _ _ (h .gates), le-leb _ _ (h .clock), le-leb _ _ (h .words), le-leb _ _ (h .marks))
 
-  pub skimmed-there : (n : ℕ) (values labels : List ℕ) → Fit fixed control words marks
-      → skimmedOf n (stateFrom fixed control values labels words marks) ≡ skim n (stateFrom fixed control values labels words marks)
-  skimmed-there n values labels h =
+  pub strode-there : (n : ℕ) (values labels : List ℕ) → Fit fixed control words marks
+      → strode n (stateFrom fixed control values labels words marks) ≡ stride n (stateFrom fixed control values labels words marks)
+  strode-there n values labels h =
       rw (le-leb _ _ (h .size), le-leb _ _ (h .limit), le-leb _ _ (h .gates), le-leb _ _ (h .clock), le-leb _ _ (h .words), le-leb _ _ (h .marks))

@@ -20,7 +20,7 @@ use Rattle.model.proofs.Truth.{either}
 use Rattle.engine.specs.declared.steps.common.Stop.{Stop}
 use Rattle.engine.specs.declared.steps.common.Stop.the-variants.{Late, Failed}
 use Rattle.engine.specs.declared.steps.common.Turn.{Turn}
-use Rattle.engine.specs.Skim.{isCommonOp, isCommon}
+use Rattle.engine.specs.Skim.{isCommonOp, fetchesCommon, isCommon}
 use Rattle.engine.specs.Common.{going, stopping, timed, gone, Assigned, Loaded, Stored, Gone, moving, deadlineOf, Timed, lateOf, Stopped, Turned}
 
 -- ---- truth values
@@ -155,7 +155,7 @@ module _ {s : State} {up : Bool} {deadline : ℕ} (h : Timed s up deadline) wher
               record {
                 common = λ x. absurd (false≢true x);
                 goes = λ x. absurd (false≢true x);
-                stops = λ x. (late (leb-false _ _ q), refl, refl);
+                stops = λ x. ((late (leb-false _ _ q), rw (f, c)), refl, refl);
                 clock = λ m x y. omega arith;
               }
 
@@ -291,7 +291,7 @@ module _ {s : State} {up : Bool} {deadline w : ℕ} {op : Op} (h : Timed s up de
           (record {
             common = λ x. absurd (false≢true x);
             goes = λ x. absurd (false≢true x);
-            stops = λ x. (go-failed t e, refl, refl);
+            stops = λ x. ((go-failed t e, ap fetchesCommon f ∙ common-row t tt), refl, refl);
             clock = λ m x y. x;
           })
 

@@ -300,7 +300,7 @@ module _ {stop : Stop} {pc errorpc p t clock : ℕ} {call : Call} {count : ℕ} 
       record {
         is =
             λ s limit e c h.
-            late-is (seen s errorpc limit count gates pc p t clock values labels) (rw q at h) (seen-upcall s errorpc limit count gates pc p t clock values labels c u);
+            late-is (seen s errorpc limit count gates pc p t clock values labels) ((rw q at h) .0) (seen-upcall s errorpc limit count gates pc p t clock values labels c u);
         held = rw f (held-of up);
         short = rw f (short-of up);
       }
@@ -338,7 +338,7 @@ module _ {stop : Stop} {pc errorpc p t clock : ℕ} {call : Call} {count : ℕ} 
   pub planned-failed : stop ≡ Failed → r ≡ Close 3 → Planned stop pc errorpc p t clock call count gates values labels r
   planned-failed q f =
       record {
-        is = λ s limit e c h. running-decides _ e ∙ ap (inLimit _) ((rw q at h) ∙ sym (ap decisionOf f));
+        is = λ s limit e c h. running-decides _ e ∙ ap (inLimit _) ((rw q at h) .0 ∙ sym (ap decisionOf f));
         held = rw f tt;
         short = rw f tt;
       }

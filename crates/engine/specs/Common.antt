@@ -14,7 +14,7 @@ use Rattle.model.specs.Step.{Decision, close, spend, failed, fetch, known, endT
 use Rattle.engine.specs.declared.steps.common.Stop.{Stop}
 use Rattle.engine.specs.declared.steps.common.Stop.the-variants.{Out, Late, Outside, Unreadable, Failed, Rest}
 use Rattle.engine.specs.declared.steps.common.Turn.{Turn}
-use Rattle.engine.specs.Skim.{isCommon}
+use Rattle.engine.specs.Skim.{fetchesCommon, isCommon}
 
 -- ---- what the leaves answer
 
@@ -107,10 +107,10 @@ pub record Uncommon (s : State) (w : ℕ) : Type 0 where
 -- What each reason to stop says of the state.
 abbrev pub Stopped : Stop → State → Type 0
 Stopped Out s = ⊥
-Stopped Late s = decide s ≡ inLimit s (lateOf s)
+Stopped Late s = (decide s ≡ inLimit s (lateOf s)) × (fetchesCommon (fetch s) ≡ true)
 Stopped Outside s = fetch s ≡ failed 1
 Stopped Unreadable s = fetch s ≡ failed 2
-Stopped Failed s = plan s (fetch s) ≡ close 3
+Stopped Failed s = (plan s (fetch s) ≡ close 3) × (fetchesCommon (fetch s) ≡ true)
 Stopped (Rest w) s = Uncommon s w
 
 -- A turn in the state s: a step of the model, or a reason to stop, with registers and memory left.

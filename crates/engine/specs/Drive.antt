@@ -2,19 +2,22 @@
 -- Assumes nothing.
 use Prim.Native.Nat.{ℕ, _≤_}
 use mathlib.Core.Path.{_≡_}
-use mathlib.Core.Bool.{Bool, true, false, _&&_, cond}
+use mathlib.Core.Bool.{Bool, true, false, _&&_, _||_, cond}
 use mathlib.Core.List.{List}
-use lib.Dec.{leb}
+use lib.Dec.{leb, ltb, eqb}
 use lib.ListN.{length}
 use Rattle.model.specs.declared.Pair.{Pair}
 use Rattle.model.specs.declared.Call.{Call}
 use Rattle.model.specs.declared.Fixed.{Fixed}
 use Rattle.model.specs.declared.Control.{Control}
 use Rattle.model.specs.Record.{State, isUpcall, endTickOf}
+use Rattle.model.specs.Word.{opField}
 use Rattle.model.specs.Step.{steps}
+use Rattle.engine.specs.declared.steps.common.Stop.{Stop}
+use Rattle.engine.specs.declared.steps.common.Stop.the-variants.{Out, Late, Outside, Unreadable, Failed, Rest}
 use Rattle.engine.specs.declared.steps.common.Context.{Context}
 use Rattle.engine.specs.declared.steps.drive.Halted.{Halted}
-use Rattle.engine.specs.Skim.{Skim, skim}
+use Rattle.engine.specs.Skim.{Skim, stride}
 use Rattle.engine.specs.Common.{deadlineOf}
 
 -- The state of these parts.
@@ -37,14 +40,14 @@ fitting s =
 abbrev pub advanced : ℕ → State → State
 advanced n s = cond (fitting s) (steps n s) s
 
--- What `skim` gives back and leaves.
-abbrev pub skimmedFrom : Fixed → Halted → List ℕ → List ℕ → List ℕ → List ℕ → Skim
-skimmedFrom fixed r values labels words marks =
+-- What `stride` gives back and leaves.
+abbrev pub strodeFrom : Fixed → Halted → List ℕ → List ℕ → List ℕ → List ℕ → Skim
+strodeFrom fixed r values labels words marks =
     record { state = stateFrom fixed (r .control) values labels words marks; left = r .left }
 
--- So many steps at the most of common ops, of such a state.
-abbrev pub skimmed : ℕ → State → Skim
-skimmed n s = cond (fitting s) (skim n s) (record { state = s; left = n })
+-- A stride of so many steps at the most, of such a state.
+abbrev pub strode : ℕ → State → Skim
+strode n s = cond (fitting s) (stride n s) (record { state = s; left = n })
 
 -- ======== Here ends what the public promises cite.
 
@@ -57,7 +60,20 @@ pub record Fit (fixed : Fixed) (control : Control) (lent lentMarks : List ℕ) :
   pub words : fixed .size ≤ length lent
   pub marks : fixed .size ≤ length lentMarks
 
--- The steps of the model were done; or where only common ops were asked for, these.
-pub record Driven (fixed : Fixed) (start : Control) (count : ℕ) (alone : Bool) (values labels words marks : List ℕ) (r : Halted) (values′ labels′ words′ : List ℕ) : Type 0 where
-  pub all : alone ≡ false → stateFrom fixed (r .control) values′ labels′ words′ marks ≡ steps count (stateFrom fixed start values labels words marks)
-  pub common : alone ≡ true → skimmedFrom fixed r values′ labels′ words′ marks ≡ skim count (stateFrom fixed start values labels words marks)
+-- The steps of the model were done; or where one stride was asked for, this.
+pub record Driven (fixed : Fixed) (start : Control) (count : ℕ) (once : Bool) (values labels words marks : List ℕ) (r : Halted) (values′ labels′ words′ : List ℕ) : Type 0 where
+  pub all : once ≡ false → stateFrom fixed (r .control) values′ labels′ words′ marks ≡ steps count (stateFrom fixed start values labels words marks)
+  pub one : once ≡ true → strodeFrom fixed r values′ labels′ words′ marks ≡ stride count (stateFrom fixed start values labels words marks)
+
+-- The hot loop stopped at a word that relabels.
+abbrev pub relabelsAt : Stop → Bool
+relabelsAt Out = false
+relabelsAt Late = false
+relabelsAt Outside = false
+relabelsAt Unreadable = false
+relabelsAt Failed = false
+relabelsAt (Rest w) = eqb (opField w) 16
+
+-- The steps end where the hot loop paused with so many of n left.
+abbrev pub endsAt : Bool → ℕ → ℕ → Stop → Bool
+endsAt once n left stop = eqb left 0 || once && ltb left n && relabelsAt stop

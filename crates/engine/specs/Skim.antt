@@ -1,10 +1,12 @@
--- Common ops done for as long as they come: what the hot loop does, and what `skim` promises.
+-- Common ops done for as long as they come, which is what the hot loop does, and one step more, which `stride` promises.
 -- Assumes nothing.
-use Prim.Native.Nat.{ℕ, zero, suc}
-use mathlib.Core.Bool.{Bool, true, false, _&&_, cond}
+use Prim.Native.Nat.{ℕ, zero, suc, _-_}
+use mathlib.Core.Bool.{Bool, true, false, _&&_, _||_, cond}
+use lib.Dec.{ltb, eqb}
 use Rattle.model.specs.Record.{State}
 use Rattle.model.specs.Word.{Op, immediate, arithmetic, load, store, branch, jump, readClock, setLabel, setPair, upcall, endUpcall, gateCall, gateReturn, halt}
 use Rattle.model.specs.Step.{Fetched, failed, fetched, fetch, isCarried, decide, step}
+use Rattle.model.specs.Certificate.{isRelabelling}
 
 -- An op that only writes a value or goes on elsewhere: ops 1 to 14.
 abbrev pub isCommonOp : Op → Bool
@@ -41,3 +43,17 @@ pub record Skim : Type 0 where
 unfoldable pub skim : ℕ → State → Skim
 skim zero s = record { state = s; left = 0 }
 skim (suc n) s = cond (isCommon s) (skim n (step s)) (record { state = s; left = suc n })
+
+-- The word that was fetched relabels.
+abbrev pub fetchesRelabelling : Fetched → Bool
+fetchesRelabelling (failed why) = false
+fetchesRelabelling (fetched w op) = isRelabelling op
+
+-- After so many of n steps the stride ends: none is left, or a word comes that relabels and isn't the first.
+unfoldable pub ends : ℕ → Skim → Bool
+ends n k = eqb (k .left) 0 || ltb (k .left) n && fetchesRelabelling (fetch (k .state))
+
+-- So many steps at the most: common ops, for as long as they come, and one step of what comes then.
+unfoldable pub stride : ℕ → State → Skim
+stride n s =
+    cond (ends n (skim n s)) (skim n s) (record { state = step (skim n s .state); left = skim n s .left - 1 })

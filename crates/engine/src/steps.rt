@@ -12,7 +12,7 @@ use model::numbers::MOST_WORDS;
 ghost use mathlib.Core.Path.{_≡_};
 ghost use mathlib.Core.Bool.{_&&_};
 ghost use lib.Dec.{leb};
-ghost use Rattle.engine.specs.Drive.{stateFrom, advanced, skimmedFrom, skimmed};
+ghost use Rattle.engine.specs.Drive.{stateFrom, advanced, strodeFrom, strode};
 
 mod apply;
 mod common;
@@ -51,8 +51,9 @@ pub fn advance(
     start
 }
 
-// The common ops, 1 to 14, for as long as they come, but so many steps at the most.
-pub fn skim(
+// The common ops, 1 to 14, for as long as they come, and one step of what comes then; but so many steps at the most. It
+// stops before a word that relabels, unless that is the first: the step is then looked at before it is taken.
+pub fn stride(
     fixed: Fixed,
     start: Control,
     count: u32,
@@ -61,7 +62,7 @@ pub fn skim(
     words: &mut [u32],
     marks: &[u8],
 ) -> Halted
-    ensures { λ r. ⌜ skimmedFrom fixed r (now (values .exit)) (now (labels .exit)) (now (words .exit)) (now (marks .entry)) ≡ skimmed count (stateFrom fixed start (now (values .entry)) (now (labels .entry)) (now (words .entry)) (now (marks .entry))) ⌝ }
+    ensures { λ r. ⌜ strodeFrom fixed r (now (values .exit)) (now (labels .exit)) (now (words .exit)) (now (marks .entry)) ≡ strode count (stateFrom fixed start (now (values .entry)) (now (labels .entry)) (now (words .entry)) (now (marks .entry))) ⌝ }
 {
     if is_fitting(fixed, start, words.len(), marks.len()) {
         return drive(fixed, start, count, true, values, labels, words, marks);

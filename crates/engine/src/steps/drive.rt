@@ -1,4 +1,4 @@
-// So many steps: the hot loop, then one step of what it stopped at, in turn; or the hot loop alone.
+// So many steps: the hot loop, then one step of what it stopped at, in turn; or once.
 use crate::calls::end_tick;
 use crate::calls::is_upcall;
 use crate::calls::newest;
@@ -6,8 +6,11 @@ use crate::steps::apply::control_after;
 use crate::steps::apply::control_of;
 use crate::steps::apply::write_back;
 use crate::steps::common::Context;
+use crate::steps::common::Pause;
+use crate::steps::common::Stop;
 use crate::steps::common::sprint;
 use crate::steps::rest::decide;
+use crate::word::op_of;
 use model::Call;
 use model::Control;
 use model::Fixed;
@@ -16,7 +19,10 @@ ghost use Prim.Native.Nat.{_≤_};
 ghost use mathlib.Core.Path.{_≡_};
 ghost use Rattle.model.specs.Record.{isUpcall, endTickOf};
 ghost use Rattle.engine.specs.Common.{deadlineOf};
-ghost use Rattle.engine.specs.Drive.{contextOf, Fit, Driven};
+ghost use Rattle.engine.specs.Drive.{contextOf, Fit, Driven, relabelsAt, endsAt};
+
+// The op that relabels.
+const RELABEL: u32 = 16;
 
 // The tick by which a common op has to finish.
 pub fn deadline_of(limit: u32, call: Call) -> u32
@@ -44,66 +50,88 @@ fn context_of(size: u32, limit: u32, pair: Pair, call: Call) -> Context
     }
 }
 
+// Whether the hot loop stopped at a word that relabels.
+fn relabels(stop: Stop) -> bool
+    ensures { λ r. ⌜ r ≡ relabelsAt stop ⌝ }
+{
+    match stop {
+        Stop::Out => false,
+        Stop::Late => false,
+        Stop::Outside => false,
+        Stop::Unreadable => false,
+        Stop::Failed => false,
+        Stop::Rest(w) => op_of(w) == RELABEL,
+    }
+}
+
+// Whether the steps end where the hot loop paused, which had `left` steps to do: no step is left; or where one stride is
+// asked for, a word comes that relabels and isn't the first.
+fn ends_at(once: bool, left: u32, pause: Pause) -> bool
+    ensures { λ r. ⌜ r ≡ endsAt once left (pause .left) (pause .stop) ⌝ }
+{
+    let stop = pause.stop;
+    (pause.left == 0) | (once & (pause.left < left) & relabels(stop))
+}
+
 // Where the steps came to an end: the control, and how many of those asked for were left.
 pub struct Halted {
     pub control: Control,
     pub left: u32,
 }
 
-// So many steps, from the control `start` and with the registers and memory as they are lent. With `alone` only the common
-// ops, up to the first step that does none.
+// These two.
+fn halting(control: Control, left: u32) -> Halted
+    ensures { λ r. ⌜ r ≡ record { control = control; left = left } ⌝ }
+{
+    Halted { control, left }
+}
+
+// So many steps, from the control `start` and with the registers and memory as they are lent. With `once` one stride of
+// them: the common ops that come, and one step of what comes then.
 pub(in crate::steps) fn drive(
     fixed: Fixed,
     start: Control,
     count: u32,
-    alone: bool,
+    once: bool,
     values: &mut [u32; 16],
     labels: &mut [u8; 16],
     words: &mut [u32],
     marks: &[u8],
 ) -> Halted
     requires { ⌜ Fit fixed start (now words) (now marks) ⌝ }
-    ensures { λ r. ⌜ Driven fixed start count alone (now (values .entry)) (now (labels .entry)) (now (words .entry)) (now (marks .entry)) r (now (values .exit)) (now (labels .exit)) (now (words .exit)) ⌝ }
+    ensures { λ r. ⌜ Driven fixed start count once (now (values .entry)) (now (labels .entry)) (now (words .entry)) (now (marks .entry)) r (now (values .exit)) (now (labels .exit)) (now (words .exit)) ⌝ }
 {
+    let limit = fixed.limit;
     let mut control = start;
     let mut left = count;
     while 0 < left {
         let end = control.end;
         if 0 < end {
-            return Halted { control, left };
+            return halting(control, left - 1);
         }
         let why = control.why;
         let pair = control.pair;
         let first = control.first;
         let second = control.second;
         let call = newest(first, second);
-        let context = context_of(fixed.size, fixed.limit, pair, call);
+        let context = context_of(fixed.size, limit, pair, call);
         let at = control.pc;
         let from = control.clock;
         let pause = sprint(context, at, from, left, values, labels, words, marks);
         let pc = pause.pc;
         let clock = pause.clock;
-        if alone | (pause.left == 0) {
-            return Halted {
-                control: control_of(pc, pair, clock, first, second, end, why),
-                left: pause.left,
-            };
+        if ends_at(once, left, pause) {
+            let there = control_of(pc, pair, clock, first, second, end, why);
+            return halting(there, pause.left);
         }
         let stop = pause.stop;
         let verdict = decide(stop, fixed, pair, pc, clock, call, values, labels);
         write_back(verdict, pair.timing, values, labels);
-        control = control_after(
-            pair,
-            first,
-            second,
-            end,
-            why,
-            pc,
-            clock,
-            fixed.limit,
-            verdict,
-        );
+        control = control_after(pair, first, second, end, why, pc, clock, limit, verdict);
         left = pause.left - 1;
+        if once {
+            return halting(control, left);
+        }
     }
-    Halted { control, left }
+    halting(control, left)
 }

@@ -2,19 +2,18 @@
 -- Assumes nothing.
 use Prim.Native.Nat.{_≤_, _<_}
 use mathlib.Core.Path.{_≡_, _∙_}
-use mathlib.Core.Bool.{false}
 use native.Mathlib.Omega.{arith}
 use borrow.Author.Needs.{needs}
-use Rattle.engine.proofs.Driving.{decided-held, decided-admits, Went, went-none, went-ended, went-out, went-paused, went-more, ready-there, busy-there}
+use Rattle.engine.proofs.Driving.{decided-held, decided-admits, Went, went-none, went-ended, went-out, went-paused, went-once, went-more, ready-there, busy-there}
 use Rattle.engine.proofs.steps.drive.drive.Statement.{statement}
 use Rattle.engine.proofs.steps.drive.drive.Tie as tie
 
 abbrev Inv-loop : tie.InvT-loop
-Inv-loop fixed count alone values₀ labels₀ words₀ marks control₀ left₀ values labels words control left =
-    Went fixed control₀ count alone values₀ labels₀ words₀ marks control left values labels words
+Inv-loop fixed count once values₀ labels₀ words₀ marks limit control₀ left₀ values labels words control left =
+    Went fixed control₀ count once values₀ labels₀ words₀ marks control left values labels words
 
 abbrev μ-loop : tie.MeasureT-loop
-μ-loop fixed count alone values₀ labels₀ words₀ marks control₀ left₀ values labels words control left = left
+μ-loop fixed count once values₀ labels₀ words₀ marks limit control₀ left₀ values labels words control left = left
 
 -- ---- the places of a turn: the loop's test, the hot loop told, the hot loop paused, and a step of what it stopped at
 
@@ -30,25 +29,37 @@ told c = c .before .before .before .before
 abbrev sprinted : tie.Else2 Inv-loop μ-loop → tie.After-sprint Inv-loop μ-loop
 sprinted c = c .before .before .before .before
 
+abbrev stopped : tie.After-control-after Inv-loop μ-loop → tie.Else2 Inv-loop μ-loop
+stopped c = c .before .before .before .before .before .before .before
+
 -- The clock where the hot loop has paused is within the limit.
 in-limit : (c : tie.After-sprint Inv-loop μ-loop) → c .sprint .result .clock ≤ started (tested (told c)) .args .fixed .limit
 in-limit c = c .sprint .ensures .bounded _ (tested (told c) .loop .inv .fit .clock) (told c .context-of .ensures .1)
 
--- A step is asked for, and is left there.
-busy : (c : tie.Else2 Inv-loop μ-loop)
-    → (started (tested (told (sprinted c))) .args .alone ≡ false) × (0 < sprinted c .sprint .result .left)
-busy c = busy-there (started (tested (told (sprinted c))) .args .alone) (sprinted c .sprint .result .left) (c .if2 .left)
+-- A step is left there.
+busy : (c : tie.Else2 Inv-loop μ-loop) → 0 < sprinted c .sprint .result .left
+busy c =
+    busy-there (started (tested (told (sprinted c))) .args .once) (tested (told (sprinted c)) .loop .left)
+    (sprinted c .sprint .result .left) (sprinted c .sprint .result .stop) (c .before .ends-at .ensures) (c .if2 .left)
 
 -- ---- the needs
 
 loop-holds : tie.Need-loop-holds Inv-loop μ-loop
 loop-holds c = went-none (c .before .before .pre)
 
+sub-halting : tie.Need-sub-halting Inv-loop μ-loop
+sub-halting c = omega (arith, c .before .loop-test .taken)
+
+halting-requires : tie.Need-halting-requires Inv-loop μ-loop
+halting-requires c κs = search needs
+
 same-length : tie.Need-same-length Inv-loop μ-loop
-same-length c = c .before .before .loop .inv .long
+same-length c = c .before .before .before .loop .inv .long
 
 returns : tie.Need-returns Inv-loop μ-loop
-returns c = went-ended (c .before .before .loop .inv) (c .if1 .taken)
+returns c =
+    went-ended (c .before .before .before .loop .inv) (c .before .before .loop-test .taken) (c .before .if1 .taken)
+    (c .halting .ensures)
 
 newest-requires : tie.Need-newest-requires Inv-loop μ-loop
 newest-requires c κs = search needs
@@ -68,29 +79,36 @@ sprint-requires c κs =
       omega (arith, fit, context .1),
     )
 
+ends-at-requires : tie.Need-ends-at-requires Inv-loop μ-loop
+ends-at-requires c κs = search needs
+
 control-of-requires : tie.Need-control-of-requires Inv-loop μ-loop
 control-of-requires c κs = search needs
 
+halting-requires-2 : tie.Need-halting-requires-2 Inv-loop μ-loop
+halting-requires-2 c κs = search needs
+
 same-length-2 : tie.Need-same-length-2 Inv-loop μ-loop
 same-length-2 c =
-    let paused = c .before .before .before .before .before in
+    let paused = c .before .before .before .before .before .before in
     paused .sprint .kept .1 .1 .1 .1 .1 .1 .0 ∙ tested (told paused) .loop .inv .long
 
 returns-2 : tie.Need-returns-2 Inv-loop μ-loop
 returns-2 c =
-    let paused = c .before .before .before .before .before in
+    let paused = c .before .before .before .before .before .before in
     let at = told paused in
     went-paused (tested at .loop .inv) (at .before .before .before .if1 .left) (at .before .newest .ensures)
-    (at .context-of .ensures .0) (paused .sprint .ensures) (c .control-of .ensures) (c .before .if2 .taken)
+    (at .context-of .ensures .0) (paused .sprint .ensures) (c .before .control-of .ensures) (c .halting2 .ensures)
+    (c .before .before .before .ends-at .ensures) (c .before .before .if2 .taken)
 
 decide-requires : tie.Need-decide-requires Inv-loop μ-loop
 decide-requires c κs =
-    let stopped = c .before .before in
-    let paused = sprinted stopped in
+    let here = c .before .before in
+    let paused = sprinted here in
     let at = told paused in
     let inv = tested at .loop .inv in (
       ready-there inv (at .before .before .before .if1 .left) (at .before .newest .ensures) (at .context-of .ensures .0)
-          (paused .sprint .ensures) (busy stopped .1),
+          (paused .sprint .ensures) (busy here),
       in-limit paused,
       inv .fit .limit,
       inv .fit .gates,
@@ -106,29 +124,50 @@ control-after-requires c κs =
     (decided-admits (decided .decide .ensures) (at .before .newest .ensures), tested at .loop .inv .fit .limit)
 
 sub-left : tie.Need-sub-left Inv-loop μ-loop
-sub-left c = busy (c .before .before .before .before .before .before .before .before) .1
+sub-left c = busy (stopped (c .before))
+
+halting-requires-3 : tie.Need-halting-requires-3 Inv-loop μ-loop
+halting-requires-3 c κs = search needs
+
+same-length-3 : tie.Need-same-length-3 Inv-loop μ-loop
+same-length-3 c =
+    let paused = sprinted (stopped (c .before .before .before)) in
+    paused .sprint .kept .1 .1 .1 .1 .1 .1 .0 ∙ tested (told paused) .loop .inv .long
+
+returns-3 : tie.Need-returns-3 Inv-loop μ-loop
+returns-3 c =
+    let done = c .before .before .before in
+    let here = stopped done in
+    let paused = sprinted here in
+    let at = told paused in
+    went-once (tested at .loop .inv) (at .before .before .before .if1 .left) (at .before .newest .ensures)
+    (at .context-of .ensures .0) (paused .sprint .ensures) (busy here) (done .before .before .before .before .decide .ensures)
+    (done .before .write-back .ensures) (done .control-after .ensures) (here .before .ends-at .ensures) (here .if2 .left)
+    (c .before .if3 .taken) (c .halting3 .ensures)
 
 loop-less : tie.Need-loop-less Inv-loop μ-loop
 loop-less c =
-    let stopped = c .before .before .before .before .before .before .before .before in
-    omega (arith, busy stopped .1, sprinted stopped .sprint .ensures .fewer)
+    let here = stopped (c .before .before) in omega (arith, busy here, sprinted here .sprint .ensures .fewer)
 
 loop-again : tie.Need-loop-again Inv-loop μ-loop
 loop-again c =
-    let decided = c .before .before .before .before .before in
-    let stopped = decided .before .before .before in
-    let paused = sprinted stopped in
+    let done = c .before .before in
+    let here = stopped done in
+    let paused = sprinted here in
     let at = told paused in
     went-more (tested at .loop .inv) (at .before .before .before .if1 .left) (at .before .newest .ensures)
-    (at .context-of .ensures .0) (paused .sprint .ensures) (busy stopped .1) (busy stopped .0)
-    (decided .decide .ensures) (c .before .before .write-back .ensures) (c .before .control-after .ensures)
-    (in-limit paused) (paused .sprint .kept .1 .1 .1 .1 .1 .1 .0)
+    (at .context-of .ensures .0) (paused .sprint .ensures) (busy here) (done .before .before .before .before .decide .ensures)
+    (done .before .write-back .ensures) (done .control-after .ensures) (c .if3 .left) (in-limit paused)
+    (paused .sprint .kept .1 .1 .1 .1 .1 .1 .0)
 
-same-length-3 : tie.Need-same-length-3 Inv-loop μ-loop
-same-length-3 c = c .before .loop .inv .long
+halting-requires-4 : tie.Need-halting-requires-4 Inv-loop μ-loop
+halting-requires-4 c κs = search needs
 
-returns-3 : tie.Need-returns-3 Inv-loop μ-loop
-returns-3 c = went-out (c .before .loop .inv) (c .loop-test .left)
+same-length-4 : tie.Need-same-length-4 Inv-loop μ-loop
+same-length-4 c = c .before .before .loop .inv .long
+
+returns-4 : tie.Need-returns-4 Inv-loop μ-loop
+returns-4 c = went-out (c .before .before .loop .inv) (c .before .loop-test .left) (c .halting4 .ensures)
 
 pub drive-spec : {M : Type 1} → statement M
 drive-spec =
@@ -137,19 +176,27 @@ drive-spec =
     Inv-loop
     μ-loop
     loop-holds
+    sub-halting
+    halting-requires
     same-length
     returns
     newest-requires
     context-of-requires
     sprint-requires
+    ends-at-requires
     control-of-requires
+    halting-requires-2
     same-length-2
     returns-2
     decide-requires
     write-back-requires
     control-after-requires
     sub-left
+    halting-requires-3
+    same-length-3
+    returns-3
     loop-less
     loop-again
-    same-length-3
-    returns-3)
+    halting-requires-4
+    same-length-4
+    returns-4)

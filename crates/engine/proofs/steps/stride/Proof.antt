@@ -1,10 +1,10 @@
--- `engine::steps::skim` meets its contract.
+-- `engine::steps::stride` meets its contract.
 -- Assumes nothing.
 use mathlib.Core.Path.{sym, refl, _∙_}
 use borrow.Author.Needs.{needs}
-use Rattle.engine.proofs.Driving.{fit-there, skimmed-there}
-use Rattle.engine.proofs.steps.skim.Statement.{statement}
-use Rattle.engine.proofs.steps.skim.Tie as tie
+use Rattle.engine.proofs.Driving.{fit-there, strode-there}
+use Rattle.engine.proofs.steps.stride.Statement.{statement}
+use Rattle.engine.proofs.steps.stride.Tie as tie
 
 is-fitting-requires : tie.Need-is-fitting-requires
 is-fitting-requires c κs = search needs
@@ -20,11 +20,11 @@ returns : tie.Need-returns
 returns c =
     let driven = c .before .before in
     let tested = driven .before .before .before .before in
-    driven .drive .ensures .common refl
-    ∙ sym (skimmed-there _ _ _ (fit-there (sym (tested .before .is-fitting .ensures) ∙ tested .if1 .taken)))
+    driven .drive .ensures .one refl
+    ∙ sym (strode-there _ _ _ (fit-there (sym (tested .before .is-fitting .ensures) ∙ tested .if1 .taken)))
 
 returns-2 : tie.Need-returns-2
 returns-2 c = rw (← c .before .is-fitting .ensures, c .if1 .left)
 
-pub skim-spec : {M : Type 1} → statement M
-skim-spec = tie.close (tie.spec is-fitting-requires drive-requires same-length returns returns-2)
+pub stride-spec : {M : Type 1} → statement M
+stride-spec = tie.close (tie.spec is-fitting-requires drive-requires same-length returns returns-2)

@@ -1,0 +1,99 @@
+-- From what load, the watch and the line writer promise to the answers.
+-- Assumes nothing.
+use Prim.Native.Nat.{ℕ, _≤_}
+use mathlib.Core.Path.{_≡_, refl, sym, ap, _∙_, subst}
+use mathlib.Core.Bool.{false}
+use mathlib.Core.List.{List, [], _∷_}
+use native.Mathlib.Omega.{arith}
+use lib.ListN.{length, take, drop, length-append}
+use lib.Seq.{take-append-seam}
+use borrow.Author.Tests.{le-leb}
+use Rattle.causes.specs.declared.Outcome.the-variants.{Done}
+use Rattle.causes.specs.Causes.{numberOf, isDone}
+use Rattle.model.specs.Record.{Bank, State}
+use Rattle.model.specs.Load.{Loading, load}
+use Rattle.model.specs.Listing.{line}
+use Rattle.model.specs.Program.{stateOfLoad, memoryAfter, programMemory, Replied}
+use Rattle.model.specs.Certificate.{whole, Certifying, certifying, verdictLine, certifyAlone}
+use Rattle.model.proofs.Step.{Ready}
+use Rattle.model.proofs.Program.{load-ready}
+use Rattle.engine.specs.Drive.{Fit}
+use Rattle.writer.specs.Writing.{Writing, answer, over, writing}
+use Rattle.writer.proofs.Fields.{line-most}
+use Rattle.certify.specs.declared.Certificate.{Certificate}
+use Rattle.certify.specs.Certified.{certificateOf}
+use Rattle.certify.specs.Inner.Watch.{Watched}
+
+-- ---- a text certified
+
+-- A ready state has the ranges that the steps rest on.
+ready-fit : {s : State} → Ready s → Fit (s .fixed) (s .control) (s .memory .values) (s .memory .labels)
+ready-fit r =
+    record {
+      size = r .fit .fixed .sizeHigh;
+      limit = r .fit .fixed .limitHigh;
+      gates = r .fit .fixed .gates;
+      clock = r .fit .clock;
+      words = r .words;
+      marks = r .labels;
+    }
+
+module _ (text : List ℕ) (m : Bank) (a : Loading) (e : a ≡ load text m) where
+  pub loaded-fit : a .outcome ≡ Done → Fit (a .machine .fixed) (a .machine .control) (a .memory .values) (a .memory .labels)
+  loaded-fit y =
+      subst (λ (b : Loading). Fit (b .machine .fixed) (b .machine .control) (b .memory .values) (b .memory .labels)) (sym e)
+      (ready-fit (load-ready text m (ap (λ (b : Loading). b .outcome) (sym e) ∙ y)))
+
+  -- A refused one.
+  pub certified-refused : (ℓ : ℕ) → isDone (a .outcome) ≡ false
+      → record { outcome = a .outcome; line = a .line; certificate = whole; memory = a .memory } ≡ certifying ℓ text m
+  unfolding certifying memoryAfter
+  certified-refused ℓ h = rw (← e, h)
+
+  -- An accepted one.
+  pub certified-done : {ℓ : ℕ} {r : Certificate} {words labels : List ℕ} → a .outcome ≡ Done
+      → Watched ℓ (stateOfLoad a) r words labels
+      → record { outcome = a .outcome; line = a .line; certificate = certificateOf r; memory = record { values = words; labels = labels } }
+      ≡ certifying ℓ text m
+  unfolding certifying memoryAfter
+  certified-done y w = rw (w .certificate, w .memory, ← e, y)
+
+-- ---- its line
+
+-- That of a refusal, and of a certificate.
+pub refusal-line : (a : Certifying) → isDone (a .outcome) ≡ false → {number place : ℕ} → number ≡ numberOf (a .outcome)
+    → place ≡ a .line → verdictLine a ≡ line 88 (number ∷ place ∷ [])
+unfolding verdictLine
+refusal-line a h n l = rw (h, n, l)
+
+pub certificate-line : (a : Certifying) → a .outcome ≡ Done
+    → verdictLine a ≡ line 86 (a .certificate .cause ∷ a .certificate .tick ∷ a .certificate .place ∷ [])
+unfolding verdictLine
+certificate-line a y = rw y
+
+-- What the line writer wrote.
+abbrev wrote : Writing → Replied
+wrote w = record { bytes = w .count; output = w .output }
+
+module _ (ℓ : ℕ) (text out : List ℕ) (room : 128 ≤ length out) (a : Certifying) (e : a ≡ certifying ℓ text programMemory) where
+  -- It was written whole, since there is room for each.
+  pub alone-wrote : (letter : ℕ) (ns : List ℕ) {n : ℕ} {o : List ℕ} → verdictLine a ≡ line letter ns → length ns ≤ 3
+      → answer n o ≡ writing letter ns out → record { bytes = n; output = o } ≡ certifyAlone ℓ text out
+  unfolding certifyAlone writing over
+  alone-wrote letter ns {n} {o} v few w = ap wrote whole ∙ rw (← e, v)
+    where
+      whole : answer n o ≡ answer (length (line letter ns)) (over (line letter ns) out)
+      whole =
+          w
+          ∙ rw (
+            le-leb (length ns) 6 (omega arith),
+            le-leb (length (line letter ns)) (length out) (omega (arith, line-most letter ns)),
+          )
+
+-- The bytes that were written count bytes of the output.
+pub alone-counts : (ℓ : ℕ) (text out : List ℕ) (r : Replied) → r ≡ certifyAlone ℓ text out
+    → (r .bytes ≤ length (r .output)) × (r .bytes ≡ length (take (r .bytes) (r .output)))
+unfolding certifyAlone
+alone-counts ℓ text out r e =
+    let o = verdictLine (certifying ℓ text programMemory) in
+    rw (e, take-append-seam o (drop (length o) out), length-append o (drop (length o) out)) (omega arith, refl)

@@ -1,0 +1,78 @@
+// The program `certifying`: reads a text from standard input and prints up to which tick nothing that is hidden can show at
+// a label, which its one argument names: `V,cause,tick,place`, or `X,number,line` for a text that is refused. Arguments,
+// read, one call, write: what is printed for a text is promised by that call.
+use certify::OUTPUT;
+use certify::certify_alone;
+use intake::read_whole;
+use libc::STDERR_FILENO;
+use libc::STDIN_FILENO;
+use libc::STDOUT_FILENO;
+use model::format::Number;
+use reader::read_number;
+
+// Every number below this one is a label.
+const LABELS: u64 = 256;
+
+// The argument's word: a label, or none.
+enum Named {
+    Label(u8),
+    Nothing,
+}
+
+// Says on standard error what went wrong.
+fn complain(what: &[u8]) {
+    io::write_all(STDERR_FILENO, what);
+}
+
+// The label that a word writes as a text does: one to ten digits without leading zeros, and nothing behind them.
+fn label_of(word: &[u8]) -> Named {
+    let Number::Value(value, next) = read_number(word) else {
+        return Named::Nothing;
+    };
+    // What stands behind a number begins one byte before `next`, which also counts the comma before a field.
+    if next <= word.len() {
+        return Named::Nothing;
+    }
+    if value < LABELS {
+        return Named::Label(value as u8);
+    }
+    Named::Nothing
+}
+
+// The label that the one argument names.
+fn read_label() -> Named {
+    if os::arg_count() != 2 {
+        return Named::Nothing;
+    }
+    let mut word = io::buffer();
+    let length = os::arg(1, &mut word);
+    if os::errno() != 0 {
+        return Named::Nothing;
+    }
+    label_of(&word[..length])
+}
+
+// Certifies a text and writes what comes of it.
+fn reply(label: u8, text: &[u8]) {
+    let mut output = [0u8; OUTPUT];
+    let n = certify_alone(label, text, &mut output);
+    if !io::write_all(STDOUT_FILENO, &output[..n]) {
+        complain(b"certifying: standard output can't be written\n");
+    }
+}
+
+fn main() {
+    let named = read_label();
+    let Named::Label(label) = named else {
+        complain(b"certifying: the argument is one label, 0 to 255\n");
+        return;
+    };
+    let mut space = io::large_buffer();
+    let input = read_whole(STDIN_FILENO, &mut space);
+    if input.whole {
+        let n = input.count;
+        reply(label, &space[..n]);
+    } else {
+        complain(b"certifying: standard input can't be read\n");
+    }
+}
