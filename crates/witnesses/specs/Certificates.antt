@@ -44,11 +44,11 @@ holdingUnder l =
 abbrev pub releasing : ℕ → State
 releasing l = machine usual (begin (twice 240)) (wordOf 16 5 11 0 ∷ stop ∷ []) (holdingUnder l) 0
 
--- 2. A gate call to the gate whose number is the secret, from 255: of a machine that is loaded there, and of one that
--- left for it by op 17.
+-- 2. A gate call to the gate whose number is the secret, from 255: of a machine that is loaded there.
 abbrev pub loadedOutside : ℕ → State
 loadedOutside secret = machine usual (begin (twice 255)) (wordOf 20 0 5 0 ∷ stop ∷ stop ∷ stop ∷ []) (holding 240 secret) 0
 
+-- The same of a machine that left for it by op 17.
 abbrev pub leftForOutside : ℕ → State
 leftForOutside secret =
     machine usual (begin (twice 240)) (wordOf 17 0 2 (3 * 2 ^ 12) ∷ wordOf 20 0 5 0 ∷ stop ∷ stop ∷ []) (holding 240 secret) 0
