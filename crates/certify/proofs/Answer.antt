@@ -15,10 +15,10 @@ use Rattle.model.specs.Load.{Loading, load}
 use Rattle.model.specs.Listing.{line}
 use Rattle.model.specs.Program.{stateOfLoad, memoryAfter, programMemory, Replied}
 use Rattle.model.specs.Certificate.{whole, Certifying, certifying, verdictLine, certifyAlone}
-use Rattle.model.proofs.Step.{Ready}
+use Rattle.model.proofs.Ready.{Ready}
 use Rattle.model.proofs.Program.{load-ready}
 use Rattle.engine.specs.Drive.{Fit}
-use Rattle.writer.specs.Writing.{Writing, answer, over, writing}
+use Rattle.writer.specs.Writing.{Writing, answer, over, writing, written}
 use Rattle.writer.proofs.Fields.{line-most}
 use Rattle.certify.specs.declared.Certificate.{Certificate}
 use Rattle.certify.specs.Certified.{certificateOf}
@@ -79,7 +79,7 @@ module _ (ℓ : ℕ) (text out : List ℕ) (room : 128 ≤ length out) (a : Cert
   -- It was written whole, since there is room for each.
   pub alone-wrote : (letter : ℕ) (ns : List ℕ) {n : ℕ} {o : List ℕ} → verdictLine a ≡ line letter ns → length ns ≤ 3
       → answer n o ≡ writing letter ns out → record { bytes = n; output = o } ≡ certifyAlone ℓ text out
-  unfolding certifyAlone writing over
+  unfolding certifyAlone writing written over
   alone-wrote letter ns {n} {o} v few w = ap wrote whole ∙ rw (← e, v)
     where
       whole : answer n o ≡ answer (length (line letter ns)) (over (line letter ns) out)
