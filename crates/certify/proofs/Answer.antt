@@ -10,6 +10,7 @@ use lib.Seq.{take-append-seam}
 use borrow.Author.Tests.{le-leb}
 use Rattle.causes.specs.declared.Outcome.the-variants.{Done}
 use Rattle.causes.specs.Causes.{numberOf, isDone}
+use Rattle.model.specs.Numbers.{letterV, letterX}
 use Rattle.model.specs.Record.{Bank, State}
 use Rattle.model.specs.Load.{Loading, load}
 use Rattle.model.specs.Listing.{line}
@@ -62,12 +63,12 @@ module _ (text : List ℕ) (m : Bank) (a : Loading) (e : a ≡ load text m) wher
 
 -- That of a refusal, and of a certificate.
 pub refusal-line : (a : Certifying) → isDone (a .outcome) ≡ false → {number place : ℕ} → number ≡ numberOf (a .outcome)
-    → place ≡ a .line → verdictLine a ≡ line 88 (number ∷ place ∷ [])
+    → place ≡ a .line → verdictLine a ≡ line letterX (number ∷ place ∷ [])
 unfolding verdictLine
 refusal-line a h n l = rw (h, n, l)
 
 pub certificate-line : (a : Certifying) → a .outcome ≡ Done
-    → verdictLine a ≡ line 86 (a .certificate .cause ∷ a .certificate .tick ∷ a .certificate .place ∷ [])
+    → verdictLine a ≡ line letterV (a .certificate .cause ∷ a .certificate .tick ∷ a .certificate .place ∷ [])
 unfolding verdictLine
 certificate-line a y = rw y
 

@@ -1,4 +1,4 @@
-// Reading a descriptor to its end: the one reader of both programs. A read that fails is told apart from the end of the
+// Reading a descriptor to its end: the one reader of the programs. A read that fails is told apart from the end of the
 // input, so that nobody takes a part for the whole.
 ghost use Prim.Native.Nat.{_≤_};
 ghost use mathlib.Core.Path.{_≡_};

@@ -10,6 +10,7 @@ use lib.ListN.{length, drop, getD}
 use Rattle.labels.specs.Label.{flows, reflection}
 use Rattle.causes.specs.declared.Outcome.{Outcome}
 use Rattle.causes.specs.Causes.{numberOf, isDone}
+use Rattle.model.specs.Numbers.{letterV, letterX}
 use Rattle.model.specs.declared.Fixed.{Fixed}
 use Rattle.model.specs.Record.{Bank, State, inUpcall}
 use Rattle.model.specs.Word.{Op, immediate, arithmetic, load as loadWord, store, branch, jump, readClock, setLabel, setPair, upcall, endUpcall, gateCall, gateReturn, halt, raise, relabel}
@@ -138,8 +139,8 @@ certifying ℓ text m = certifyingLoad ℓ (load text m)
 -- What the program `certifying` prints of it: `V,cause,tick,place`; for a refusal `X,number,line`.
 unfoldable pub verdictLine : Certifying → List ℕ
 verdictLine a =
-    cond (isDone (a .outcome)) (line 86 (a .certificate .cause ∷ a .certificate .tick ∷ a .certificate .place ∷ []))
-    (line 88 (numberOf (a .outcome) ∷ a .line ∷ []))
+    cond (isDone (a .outcome)) (line letterV (a .certificate .cause ∷ a .certificate .tick ∷ a .certificate .place ∷ []))
+    (line letterX (numberOf (a .outcome) ∷ a .line ∷ []))
 
 -- An image certified in the program's memory: how many bytes, and the output that holds them at its start.
 unfoldable pub certifyAlone : ℕ → List ℕ → List ℕ → Replied

@@ -110,6 +110,10 @@ letterF = 70
 abbrev pub letterX : ℕ
 letterX = 88
 
+-- The line of a certificate.
+abbrev pub letterV : ℕ
+letterV = 86
+
 -- ---- the kinds of a call, as an F line tells them
 
 -- A gate call.
