@@ -20,7 +20,7 @@ use Rattle.model.proofs.Ready.{Ready}
 use Rattle.model.proofs.Program.{load-ready}
 use Rattle.engine.specs.Drive.{Fit}
 use Rattle.writer.specs.Writing.{Writing, answer, over, writing, written}
-use Rattle.writer.proofs.Fields.{line-most}
+use Rattle.texts.proofs.Fields.{line-most}
 use Rattle.certify.specs.declared.Certificate.{Certificate}
 use Rattle.certify.specs.Certified.{certificateOf}
 use Rattle.certify.specs.Inner.Watch.{Watched}

@@ -1,4 +1,1 @@
 mod Laws
-mod WordLabels
-pub mod Buffer
-pub mod Fresh

@@ -10,7 +10,7 @@ use Rattle.model.specs.WellFormed.{wellFormed, lentWhole}
 use Rattle.model.specs.Listing.{listing, Printing, print}
 use Rattle.model.proofs.Truth.{choice}
 use Rattle.model.proofs.Ready.{fit}
-use Rattle.printer.proofs.Lines.{head-most, entries-most, listing-length}
+use Rattle.texts.proofs.Listing.{head-most, entries-most, listing-length}
 
 listing-most : (s : State) → s .fixed .size ≤ 2048 → length (listing s) ≤ 2 ^ 32
 listing-most s h =

@@ -3,7 +3,7 @@
 use Prim.Native.Nat.{ℕ, _≤_}
 use mathlib.Core.Path.{_≡_, refl, sym, ap, _∙_}
 use mathlib.Core.Bool.{true, false, _&&_}
-use mathlib.Core.List.{List, _∷_}
+use mathlib.Core.List.{List}
 use borrow.Author.Tests.{leb-true}
 use lib.Dec.{leb}
 use lib.ListN.{length, drop}
@@ -20,14 +20,15 @@ use Rattle.model.specs.declared.judging.Header.{Header}
 use Rattle.model.specs.Record.{Bank, Machine}
 use Rattle.model.specs.WellFormed.{lentWhole}
 use Rattle.model.specs.Text.{readLine, onwards, lines}
-use Rattle.model.specs.Load.{machineOfHeader, headerInRange, headerTests, behindHeader, Verdict, refuse, accept, tried, judge, judgeHeader, judgeLines, judgeText, fill, cleared, noMachine, settle, load}
+use Rattle.model.specs.Load.{machineOfHeader, headerInRange, headerTests, behindHeader, refuse, accept, tried, judge, judgeHeader, judgeLines, judgeText, fill, cleared, noMachine, load}
 use Rattle.model.proofs.Truth.{and-iff}
 use Rattle.model.proofs.Load.{judge-size}
 use Rattle.machine.specs.Answered.{recordOf}
 use Rattle.loader.specs.declared.Loaded.{Loaded}
-use Rattle.loader.specs.Load.{bank, loadingOf, verdictOf, storable}
-use Rattle.loader.proofs.Lines.{lines-first}
-use Rattle.loader.proofs.Judging.{accepted-storable}
+use Rattle.texts.specs.Inner.Storable.{storable}
+use Rattle.loader.specs.Load.{bank, loadingOf, verdictOf}
+use Rattle.texts.proofs.Lines.{lines-first}
+use Rattle.texts.proofs.Storable.{accepted-storable}
 
 -- ---- a struct that refuses
 

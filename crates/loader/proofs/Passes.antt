@@ -22,11 +22,13 @@ use Rattle.model.specs.Record.{Bank, Machine}
 use Rattle.model.specs.Ops.{isLabel}
 use Rattle.model.specs.Text.{readLine, linesIn, lines}
 use Rattle.model.specs.Load.{entryInRange, lineTests, behindHeader, lastOf, withLine, refuse, accept, tried, judge, cleared, withWord, fill}
-use Rattle.reader.proofs.Laws.{part, sized}
-use Rattle.verdicts.proofs.Ranges.{EntryRange, entry-range}
-use Rattle.loader.specs.Load.{takes, isStorable, storable, bank}
-use Rattle.loader.proofs.Lines.{First, judge-first, storable-first, fill-first}
-use Rattle.loader.proofs.Judging.{line-takes, line-good}
+use Rattle.texts.proofs.Text.{part, sized}
+use Rattle.texts.proofs.Ranges.{EntryRange, entry-range}
+use Rattle.texts.specs.Inner.Storable.{isStorable, storable}
+use Rattle.loader.specs.Load.{takes, bank}
+use Rattle.texts.proofs.Lines.{First, judge-first, storable-first, fill-first}
+use Rattle.texts.proofs.Storable.{line-good}
+use Rattle.loader.proofs.Judging.{line-takes}
 
 -- ---- a line that was read
 

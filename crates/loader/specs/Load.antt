@@ -1,8 +1,8 @@
 -- The loader's structs as the model's answers, and what its passes ask of a line.
 -- Assumes nothing.
 use Prim.Native.Nat.{ℕ}
-use mathlib.Core.Bool.{Bool, true, false, _&&_}
-use mathlib.Core.List.{List, [], _∷_}
+use mathlib.Core.Bool.{Bool, true}
+use mathlib.Core.List.{List}
 use Rattle.model.specs.declared.format.Line.{Line}
 use Rattle.model.specs.declared.format.Line.the-variants.{M, G, R, W, Malformed}
 use Rattle.model.specs.Record.{Bank}
@@ -36,18 +36,3 @@ takes count (G pc p t) = gateInRange count pc p t
 takes count (R k l v) = entryInRange 16 k l v
 takes count (W k l v) = true
 takes count Malformed = true
-
--- ---- the lines written
-
--- The line isn't malformed, and the numbers of a W line are in their ranges.
-abbrev pub isStorable : ℕ → Line → Bool
-isStorable size (M a b c d e f) = true
-isStorable size (G pc p t) = true
-isStorable size (R k l v) = true
-isStorable size (W k l v) = entryInRange size k l v
-isStorable size Malformed = false
-
--- So it is with all lines.
-unfoldable pub storable : ℕ → List Line → Bool
-storable size [] = true
-storable size (l ∷ ls) = isStorable size l && storable size ls

@@ -22,7 +22,8 @@ ghost use Rattle.labels.specs.Label.{lowest};
 ghost use Rattle.model.specs.Text.{lines};
 ghost use Rattle.model.specs.Load.{machineOfHeader, withGate, withRegister, withLine, headerInRange, gateInRange, entryInRange, behindHeader, judge, withWord, fill, cleared, noMachine, load};
 ghost use Rattle.machine.specs.Answered.{recordOf};
-ghost use Rattle.loader.specs.Load.{bank, loadingOf, verdictOf, takes, isStorable, storable};
+ghost use Rattle.texts.specs.Inner.Storable.{isStorable, storable};
+ghost use Rattle.loader.specs.Load.{bank, loadingOf, verdictOf, takes};
 
 // The outcome, the refusal's line or 0, and the record: beside a refusal stands one of size 0.
 pub struct Loaded {

@@ -1,5 +1,3 @@
 pub mod Places
 pub mod Answers
-pub mod Lines
-pub mod Bound
 pub mod Faithful

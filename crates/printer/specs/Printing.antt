@@ -4,7 +4,7 @@ use Prim.Native.Nat.{ℕ, _+_, _≤_}
 use mathlib.Core.Path.{_≡_}
 use mathlib.Core.List.{List, _++_}
 use lib.Dec.{leb}
-use lib.ListN.{length, take, drop}
+use lib.ListN.{length, take}
 use Rattle.causes.specs.declared.Cause.the-variants.{ShortOutput}
 use Rattle.causes.specs.Tests.{unless}
 use Rattle.model.specs.Record.{Bank, Machine, State, stateOf}

@@ -2,14 +2,14 @@
 -- Assumes nothing.
 use Prim.Native.Nat.{ℕ, _+_, _-_, _<_, _≤_}
 use mathlib.Core.Path.{_≡_, sym, ap, _∙_}
-use mathlib.Core.List.{List, _∷_}
+use mathlib.Core.List.{List}
 use native.Mathlib.Omega.{arith}
 use lib.ListN.{length, set, length-set}
 use borrow.Author.Tests.{le-leb, lt-leb}
 use borrow.Rule.Slice.PartMut.{putMid}
 use Rattle.model.specs.Listing.{fields, line}
 use Rattle.writer.specs.Writing.{Wrote, Writing, answer, written, writing}
-use Rattle.writer.proofs.Fields.{line-length, line-most}
+use Rattle.texts.proofs.Fields.{line-length, line-most}
 use Rattle.writer.proofs.Over.{rest, wrote-length, wrote-byte, wrote-then, wrote-last}
 
 -- The output with its letter, and with the part behind the letter back in its place.

@@ -8,7 +8,7 @@ use lib.ListN.{length, take, drop, set, length-append, length-set}
 use lib.Seq.{drop-at, set-split, length-take-le}
 use Rattle.model.specs.Listing.{decimal}
 use Rattle.writer.specs.Writing.{over}
-use Rattle.writer.proofs.Decimal.{decimal-digit, decimal-digits}
+use Rattle.texts.proofs.Decimal.{decimal-digit, decimal-digits}
 
 -- The digits of `rest` are still to be written before `at`, those behind them stand, and so does what stood behind these.
 pub record Spelled (n : ℕ) (before after : List ℕ) (at rest : ℕ) : Type 0 where

@@ -2,7 +2,7 @@
 -- Assumes nothing.
 use native.Mathlib.Omega.{arith}
 use borrow.Author.Needs.{needs}
-use Rattle.verdicts.proofs.Ranges.{header-range}
+use Rattle.texts.proofs.Ranges.{header-range}
 use Rattle.loader.proofs.machine_of.Statement.{statement}
 use Rattle.loader.proofs.machine_of.Tie as tie
 

@@ -2,7 +2,7 @@
 -- Assumes nothing.
 use native.Mathlib.Omega.{arith}
 use borrow.Author.Needs.{needs}
-use Rattle.verdicts.proofs.Ranges.{gate-range}
+use Rattle.texts.proofs.Ranges.{gate-range}
 use Rattle.loader.proofs.with_gate.Statement.{statement}
 use Rattle.loader.proofs.with_gate.Tie as tie
 

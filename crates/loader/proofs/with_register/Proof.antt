@@ -2,7 +2,7 @@
 -- Assumes nothing.
 use native.Mathlib.Omega.{arith}
 use borrow.Author.Needs.{needs}
-use Rattle.verdicts.proofs.Ranges.{entry-range}
+use Rattle.texts.proofs.Ranges.{entry-range}
 use Rattle.loader.proofs.with_register.Statement.{statement}
 use Rattle.loader.proofs.with_register.Tie as tie
 

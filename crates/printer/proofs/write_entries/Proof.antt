@@ -7,7 +7,7 @@ use lib.ListN.{length}
 use borrow.Author.Needs.{needs}
 use Rattle.model.specs.Listing.{entryLines}
 use Rattle.printer.specs.Printing.{lent, Placed}
-use Rattle.printer.proofs.Lines.{entries-more, entries-most}
+use Rattle.texts.proofs.Listing.{entries-more, entries-most}
 use Rattle.printer.proofs.Places.{placed-none, placed-then}
 use Rattle.printer.proofs.write_entries.Statement.{statement}
 use Rattle.printer.proofs.write_entries.Tie as tie

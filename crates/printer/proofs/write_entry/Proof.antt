@@ -2,7 +2,7 @@
 -- Assumes nothing.
 use mathlib.Core.Path.{sym, _∙_}
 use borrow.Author.Needs.{needs}
-use Rattle.printer.proofs.Lines.{entry-listed, entry-unlisted}
+use Rattle.texts.proofs.Listing.{entry-listed, entry-unlisted}
 use Rattle.printer.proofs.Places.{placed-none}
 use Rattle.printer.proofs.write_entry.Statement.{statement}
 use Rattle.printer.proofs.write_entry.Tie as tie

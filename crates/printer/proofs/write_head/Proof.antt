@@ -5,9 +5,9 @@ use native.Mathlib.Omega.{arith}
 use borrow.Author.Needs.{needs}
 use Rattle.model.specs.Numbers.{letterE}
 use Rattle.model.specs.Listing.{line, endFields, headLines}
-use Rattle.writer.proofs.Fields.{line-most}
+use Rattle.texts.proofs.Fields.{line-most}
 use Rattle.printer.specs.Printing.{Placed}
-use Rattle.printer.proofs.Lines.{call-most}
+use Rattle.texts.proofs.Listing.{call-most}
 use Rattle.printer.proofs.Places.{placed-then}
 use Rattle.printer.proofs.write_head.Statement.{statement}
 use Rattle.printer.proofs.write_head.Tie as tie

@@ -10,7 +10,7 @@ use Rattle.model.specs.Record.{stateOf, State}
 use Rattle.model.specs.Listing.{entryLines, listing}
 use Rattle.machine.specs.Answered.{recordOf}
 use Rattle.printer.specs.Printing.{lent, Entries}
-use Rattle.printer.proofs.Lines.{head-most, entries-most}
+use Rattle.texts.proofs.Listing.{head-most, entries-most}
 use Rattle.printer.proofs.Places.{placed-then}
 use Rattle.printer.proofs.write_listing.Statement.{statement}
 use Rattle.printer.proofs.write_listing.Tie as tie

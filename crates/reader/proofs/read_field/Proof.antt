@@ -7,7 +7,7 @@ use lib.ListN.{length, List·getD-eq-default}
 use borrow.Author.Needs.{needs}
 use borrow.Author.Tests.{eq-eqb, ne-eqb}
 use Rattle.model.specs.Text.{number}
-use Rattle.reader.proofs.Laws.{part, field-by-byte}
+use Rattle.texts.proofs.Text.{part, field-by-byte}
 use Rattle.reader.proofs.read_field.Statement.{statement}
 use Rattle.reader.proofs.read_field.Tie as tie
 

@@ -8,7 +8,8 @@ use lib.ListN.{length, set, length-set}
 use lib.Seq.{take-all}
 use borrow.Author.Needs.{needs}
 use Rattle.model.specs.Text.{readFields}
-use Rattle.reader.proofs.Laws.{FieldsRead, fields-none, fields-more, fields-bad, field-of-part}
+use Rattle.texts.proofs.Text.{field-of-part}
+use Rattle.reader.proofs.Loops.{FieldsRead, fields-none, fields-more, fields-bad}
 use Rattle.reader.proofs.read_fields.Statement.{statement}
 use Rattle.reader.proofs.read_fields.Tie as tie
 

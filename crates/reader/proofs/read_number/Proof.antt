@@ -5,7 +5,7 @@ use Prim.Native.Nat.{_-_}
 use mathlib.Core.Path.{sym, _∙_}
 use native.Mathlib.Omega.{arith}
 use borrow.Author.Needs.{needs}
-use Rattle.reader.proofs.Laws.{Scanned, Digit, Ended, scan-none, scan-small, is-digit, scan-more, number-none, number-long, number-one, number-led, number-good}
+use Rattle.reader.proofs.Loops.{Scanned, Digit, Ended, scan-none, scan-small, is-digit, scan-more, number-none, number-long, number-one, number-led, number-good}
 use Rattle.reader.proofs.read_number.Statement.{statement}
 use Rattle.reader.proofs.read_number.Tie as tie
 

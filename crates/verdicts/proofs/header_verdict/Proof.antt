@@ -9,7 +9,7 @@ use Rattle.causes.specs.Tests.{firstRefusal}
 use Rattle.model.specs.WellFormed.{lentWhole}
 use Rattle.model.specs.Load.{headerTests}
 use Rattle.verdicts.proofs.Negated.{fails, passes}
-use Rattle.verdicts.proofs.Ranges.{header-range}
+use Rattle.texts.proofs.Ranges.{header-range}
 use Rattle.verdicts.proofs.header_verdict.Statement.{statement}
 use Rattle.verdicts.proofs.header_verdict.Tie as tie
 

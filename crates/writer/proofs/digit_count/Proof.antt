@@ -2,7 +2,7 @@
 -- Assumes nothing.
 use Prim.Native.Nat.{_-_}
 use native.Mathlib.Omega.{arith}
-use Rattle.writer.proofs.Decimal.{Counted, count-first, count-end, count-last, count-room, count-more}
+use Rattle.texts.proofs.Decimal.{Counted, count-first, count-end, count-last, count-room, count-more}
 use Rattle.writer.proofs.digit_count.Statement.{statement}
 use Rattle.writer.proofs.digit_count.Tie as tie
 

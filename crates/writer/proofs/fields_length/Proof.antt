@@ -8,8 +8,8 @@ use lib.ListN.{length, take, getD}
 use lib.Seq.{take-all}
 use borrow.Author.Needs.{needs}
 use Rattle.model.specs.Listing.{fields}
-use Rattle.writer.proofs.Decimal.{most-digits}
-use Rattle.writer.proofs.Fields.{length-more, fields-part, fields-most}
+use Rattle.texts.proofs.Decimal.{most-digits}
+use Rattle.texts.proofs.Fields.{length-more, fields-part, fields-most}
 use Rattle.writer.proofs.fields_length.Statement.{statement}
 use Rattle.writer.proofs.fields_length.Tie as tie
 

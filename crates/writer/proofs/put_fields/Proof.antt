@@ -8,7 +8,7 @@ use borrow.Author.Needs.{needs}
 use Rattle.model.specs.Listing.{fields}
 use Rattle.writer.specs.Writing.{Wrote}
 use Rattle.writer.proofs.Over.{wrote-none, wrote-room, wrote-then, wrote-length}
-use Rattle.writer.proofs.Fields.{field-room, fields-more}
+use Rattle.texts.proofs.Fields.{field-room, fields-more}
 use Rattle.writer.proofs.put_fields.Statement.{statement}
 use Rattle.writer.proofs.put_fields.Tie as tie
 

@@ -3,7 +3,7 @@
 use native.Mathlib.Omega.{arith}
 use lib.ListN.{length-set}
 use borrow.Author.Needs.{needs}
-use Rattle.writer.proofs.Decimal.{least-digits}
+use Rattle.texts.proofs.Decimal.{least-digits}
 use Rattle.writer.proofs.Spelled.{Spelled, spell-none, spell-more, spell-last}
 use Rattle.writer.proofs.put_number.Statement.{statement}
 use Rattle.writer.proofs.put_number.Tie as tie

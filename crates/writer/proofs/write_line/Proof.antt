@@ -6,7 +6,7 @@ use mathlib.Core.Path.{ap}
 use native.Mathlib.Omega.{arith}
 use lib.ListN.{length-set}
 use borrow.Author.Needs.{needs}
-use Rattle.writer.proofs.Fields.{fields-most}
+use Rattle.texts.proofs.Fields.{fields-most}
 use Rattle.writer.proofs.Over.{wrote-byte, wrote-room}
 use Rattle.writer.proofs.Answer.{LineCount, LineWritten, headed, not-a-line, no-room, line-written}
 use Rattle.writer.proofs.write_line.Statement.{statement}

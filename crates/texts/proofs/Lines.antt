@@ -15,8 +15,8 @@ use Rattle.model.specs.Record.{Bank, Machine}
 use Rattle.model.specs.Text.{readLine, onwards, linesIn, lines}
 use Rattle.model.specs.Load.{entryInRange, lineTests, judge, withWord, fill}
 use Rattle.model.proofs.Truth.{and-iff, clash}
-use Rattle.reader.proofs.Laws.{sized}
-use Rattle.loader.specs.Load.{isStorable, storable}
+use Rattle.texts.proofs.Text.{sized}
+use Rattle.texts.specs.Inner.Storable.{isStorable, storable}
 
 -- ---- the first line and the lines of the rest
 

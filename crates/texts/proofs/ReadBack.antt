@@ -13,7 +13,7 @@ use Rattle.model.specs.declared.format.Number.the-variants.{Value}
 use Rattle.model.specs.Listing.{decimalIn, decimal}
 use Rattle.model.specs.Text.{isDigit, digits, decimalFrom, wellWritten, number}
 use Rattle.model.proofs.Truth.{choice, either}
-use Rattle.writer.proofs.Decimal.{tenth, some-digit, digits-below, least-digits}
+use Rattle.texts.proofs.Decimal.{tenth, some-digit, digits-below, least-digits}
 
 -- ---- a printed number is all digits
 

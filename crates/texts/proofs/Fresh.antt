@@ -4,7 +4,7 @@
 use Prim.Native.Nat.{ℕ, zero, suc, _+_, _-_, _<_, _≤_}
 use mathlib.Core.Path.{_≡_, refl, ap, _∙_, sym, subst}
 use mathlib.Core.Logic.{⊎-elim}
-use mathlib.Core.Bool.{Bool, true, false, _&&_, cond}
+use mathlib.Core.Bool.{true, false, cond}
 use mathlib.Core.List.{List, [], _∷_, _++_}
 use native.Mathlib.Nat.{lt-of-lt-of-le}
 use native.Mathlib.Omega.{arith}
@@ -34,9 +34,9 @@ use Rattle.model.proofs.Legal.{LegalWrite, keeps, sets, marks}
 use Rattle.model.proofs.Ready.{Ready}
 use Rattle.model.proofs.Step.{step-write, step-ready}
 use Rattle.model.proofs.Program.{load-ready}
-use Rattle.verdicts.proofs.Ranges.{entry-range}
-use Rattle.loader.specs.Load.{isStorable, storable}
-use Rattle.loader.proofs.Judging.{text-storable}
+use Rattle.texts.proofs.Ranges.{entry-range}
+use Rattle.texts.specs.Inner.Storable.{isStorable, storable}
+use Rattle.texts.proofs.Storable.{text-storable}
 
 -- Two memories agree below the size.
 record Agree (size : ℕ) (m n : Bank) : Type 0 where

@@ -2,7 +2,7 @@
 -- label, that of a register.
 -- Assumes nothing.
 use Prim.Native.Nat.{ℕ, zero, suc, _+_, _<_, _≤_, zero-le}
-use mathlib.Core.Path.{_≡_, refl, _∙_, sym}
+use mathlib.Core.Path.{_≡_, refl, _∙_}
 use mathlib.Core.Bool.{true, _&&_}
 use mathlib.Core.List.{List, [], _∷_, _++_}
 use native.Mathlib.Nat.{lt-of-lt-of-le}
@@ -21,9 +21,9 @@ use Rattle.model.specs.Step.{Fetched, failed, fetched, fetch, Decision, rest, s
 use Rattle.model.specs.Load.{Verdict, refuse, accept, judgeText, cleared, withWord, fill, Loading, settle, load}
 use Rattle.model.proofs.Truth.{choice, and-iff}
 use Rattle.model.proofs.Step.{below-set}
-use Rattle.verdicts.proofs.Ranges.{entry-range}
-use Rattle.loader.specs.Load.{isStorable, storable}
-use Rattle.loader.proofs.Judging.{text-storable}
+use Rattle.texts.proofs.Ranges.{entry-range}
+use Rattle.texts.specs.Inner.Storable.{isStorable, storable}
+use Rattle.texts.proofs.Storable.{text-storable}
 
 -- ---- a step
 

@@ -18,9 +18,9 @@ use Rattle.model.specs.WellFormed.{endInRange, wellFormed}
 use Rattle.model.specs.Listing.{decimal, line, endFields, callLine, isListed, entryLine, entryLines, listing}
 use Rattle.model.proofs.Truth.{and-iff, choice}
 use Rattle.model.proofs.Ready.{Fit, CallsFit, none, gate, upcall, both, fit}
-use Rattle.writer.proofs.Decimal.{digits-below}
-use Rattle.writer.proofs.Fields.{three-fields, five-fields, six-fields}
-use Rattle.printer.proofs.Lines.{cond-most, head-length, entryAt, listing-length}
+use Rattle.texts.proofs.Decimal.{digits-below}
+use Rattle.texts.proofs.Fields.{three-fields, five-fields, six-fields}
+use Rattle.texts.proofs.Listing.{cond-most, head-length, entryAt, listing-length}
 
 -- ---- what the types of the code say
 

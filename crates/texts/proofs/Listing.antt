@@ -1,7 +1,7 @@
 -- The lines of a listing, as its code writes them: the E and F lines, and the lines of entries one by one.
 -- Assumes nothing.
-use Prim.Native.Nat.{ℕ, zero, suc, _+_, _-_, _*_, _<_, _≤_}
-use mathlib.Core.Path.{_≡_, refl, ap, _∙_}
+use Prim.Native.Nat.{ℕ, zero, suc, _+_, _-_, _*_, _≤_}
+use mathlib.Core.Path.{_≡_}
 use mathlib.Core.Bool.{Bool, true, false, cond}
 use mathlib.Core.List.{List, [], _∷_, _++_, append-assoc, append-nil}
 use native.Mathlib.Nat.{zero-add, suc-add}
@@ -12,7 +12,7 @@ use Rattle.model.specs.declared.Call.{Call}
 use Rattle.model.specs.declared.Call.the-variants.{Empty, Gate, Upcall}
 use Rattle.model.specs.Record.{Bank, State}
 use Rattle.model.specs.Listing.{line, endFields, callLine, headLines, isListed, entryLine, entryLines, listing}
-use Rattle.writer.proofs.Fields.{line-most}
+use Rattle.texts.proofs.Fields.{line-most}
 
 -- ---- the E line and the F lines
 

@@ -22,10 +22,10 @@ use Rattle.model.proofs.Ready.{Ready}
 use Rattle.model.proofs.Run.{run-leaves}
 use Rattle.model.proofs.Load.{load-not-short}
 use Rattle.model.proofs.Program.{load-ready, run-load-ready}
-use Rattle.writer.proofs.Fields.{line-most}
-use Rattle.printer.proofs.Lines.{head-most, entries-most, listing-length}
-use Rattle.printer.proofs.Bound.{entries-bound}
-use Rattle.fire.proofs.WordLabels.{Bytes, run-labels, load-bytes}
+use Rattle.texts.proofs.Fields.{line-most}
+use Rattle.texts.proofs.Listing.{head-most, entries-most, listing-length}
+use Rattle.texts.proofs.Bound.{entries-bound}
+use Rattle.texts.proofs.WordLabels.{Bytes, run-labels, load-bytes}
 
 -- The listing of a ready state whose word labels are bytes: 342 bytes for the E and F lines, 65 for each R line and 22
 -- for each W line are enough.

@@ -8,7 +8,7 @@ use native.Mathlib.Omega.{arith}
 use lib.ListN.{length, take, drop, getD, length-append, take-append-drop}
 use lib.Seq.{take-suc}
 use Rattle.model.specs.Listing.{decimal, fields, line}
-use Rattle.writer.proofs.Decimal.{most-digits}
+use Rattle.texts.proofs.Decimal.{most-digits}
 
 -- Fields of two lists, one behind the other.
 fields-append : (xs ys : List ℕ) → fields (xs ++ ys) ≡ fields xs ++ fields ys

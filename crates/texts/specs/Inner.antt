@@ -1,0 +1,2 @@
+-- Definitions that no public promise cites.
+pub mod Storable
