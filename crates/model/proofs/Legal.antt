@@ -12,17 +12,16 @@ use lib.Bits.{and-lt, or-lt, xor-lt}
 use lib.Dec.{ltb, eqb, lit<, lit≤}
 use lib.ListN.{getD}
 use borrow.Author.Tests.{ltb-true, ltb-false, eqb-true}
-use Rattle.labels.specs.Label.{principals}
-use Rattle.labels.proofs.Laws.{Flows, join-flows, flows-meet, raise-flows-old, raise-flows-new, relabel-flows-old, relabel-flows-new}
+use Rattle.labels.specs.Label.{labelCount}
+use Rattle.labels.proofs.Laws.{join-flows, flows-meet, raise-flows-old, raise-flows-new, relabel-flows-old, relabel-flows-new}
 use Rattle.model.specs.declared.Pair.{Pair}
 use Rattle.model.specs.declared.CallGate.{CallGate}
 use Rattle.model.specs.Record.{State, Location, register, word, valueAt, labelAt, isEmpty, isGate, pairOf, newest, inUpcall}
 use Rattle.model.specs.WellFormed.{isValid}
-use Rattle.model.specs.Typed.{Below}
 use Rattle.model.specs.Word.{Arithmetic, add, subtract, and, or, xor, less, multiply, Rule, raise, relabel, Op, immediate, arithmetic, load, store, branch, jump, readClock, setLabel, setPair, upcall, endUpcall, gateCall, gateReturn, halt, opField, aField, nField, decode, compute}
-use Rattle.model.specs.Ops.{Write, nothing, value, label, Change, write, goto, enter, openUpcall, openGate, closeGate, stop, Effect, does, ends, Row, allows, newPairAllowed, mayUpcall, mayCallGate, mayReturn, multiplyTicks, arithmeticTicks, noGate, Ra, Rb, newPair, gate, table}
+use Rattle.model.specs.Ops.{Write, nothing, value, label, Change, write, goto, enter, openUpcall, openGate, closeGate, stop, Effect, does, ends, Row, allows, newPairAllowed, mayUpcall, mayCallGate, mayReturn, multiplyTicks, arithmeticTicks, noGate, isLabel, Ra, Rb, newPair, gate, table}
 use Rattle.model.specs.Step.{known, fetchAllowed, fetch, Decision, rest, spend, stall, close, carry, endTick, finish, fault, passed, attempt, inTime, plan, beyondLimit, inLimit, running, decide}
-use Rattle.model.proofs.Ready.{_⊑_, Ready}
+use Rattle.model.proofs.Ready.{_⊑_, Ready, register-value}
 use Rattle.model.proofs.Truth.{choice, and-iff, or-iff, or-true, not-iff, clash}
 
 -- A location is a register that exists, or a word below the size.
@@ -39,11 +38,11 @@ module _ (s : State) where
   timingLabel = s .control .pair .timing
 
   -- A write under the pc label p: its location exists, p flows to the label that stands there and to the one that is set,
-  -- and a value has 32 bits.
+  -- a value has 32 bits, and what is set as a label is one.
   pub data LegalWrite : Write → Type 0 where
     keeps : LegalWrite nothing
     sets : {x : Location} {v : ℕ} → Inside s x → pcLabel ⊑ labelAt s x → v < 2 ^ 32 → LegalWrite (value x v)
-    marks : {x : Location} {l : ℕ} → Inside s x → pcLabel ⊑ labelAt s x → pcLabel ⊑ l → LegalWrite (label x l)
+    marks : {x : Location} {l : ℕ} → Inside s x → pcLabel ⊑ labelAt s x → pcLabel ⊑ l → l < labelCount → LegalWrite (label x l)
 
   -- An upcall that keeps the end tick e under the new pair q, in so many ticks.
   pub record LegalUpcall (q : Pair) (e ticks : ℕ) : Type 0 where
@@ -99,6 +98,11 @@ bit-lt : (b : Bool) → cond b 1 0 < 2 ^ 32
 bit-lt true = lit< tt
 bit-lt false = lit< tt
 
+-- What passes for a label is one.
+label-lt : (v : ℕ) → isLabel v ≡ true → v < labelCount
+unfolding isLabel
+label-lt v e = ltb-true v labelCount e
+
 -- What ops 2 to 8 compute has 32 bits.
 compute-lt : (f : Arithmetic) (x y : ℕ) → x < 2 ^ 32 → y < 2 ^ 32 → compute f x y < 2 ^ 32
 unfolding compute
@@ -132,13 +136,13 @@ below-or-equal i j m n e =
 module _ (s : State) (ready : Ready s) (w : ℕ) where
   -- The value of a register has 32 bits.
   reads : (k : ℕ) → valueAt s (register k) < 2 ^ 32
-  unfolding valueAt Below
-  reads k = ready .typed .values k
+  unfolding valueAt
+  reads k = register-value s ready k
 
   -- So has the value of a word.
   reads-word : (k : ℕ) → k < s .fixed .size → valueAt s (word k) < 2 ^ 32
   unfolding valueAt
-  reads-word k h = ready .typed .words k h
+  reads-word k h = ready .typed .memory .values k h
 
   n-lt : nField w < 2 ^ 32
   unfolding nField
@@ -192,7 +196,7 @@ module _ (s : State) (ready : Ready s) (w : ℕ) where
         long = lit≤ tt;
         passes = λ e. let h = simp and-iff at e in
             let r = allowed f _ _ _ (h .0 .1) in
-            carried (writes (marks a-inside (r .0) (r .1)));
+            carried (writes (marks a-inside (r .0) (r .1) (label-lt _ (h .0 .0))));
       }
   row-legal setPair =
       record {

@@ -3,14 +3,15 @@
 -- Assumes nothing.
 use Prim.Native.Nat.{ℕ, _+_, _^_, _<_, _≤_, zero-le}
 use mathlib.Core.Path.{_≡_, refl, sym, ap, _∙_, subst}
-use mathlib.Core.Logic.{⊎-elim}
 use mathlib.Core.Bool.{Bool, true, false, _&&_}
 use mathlib.Core.List.{List, [], _∷_, _++_}
 use native.Mathlib.Nat.{lt-of-lt-of-le}
 use native.Mathlib.Omega.{arith}
 use lib.Dec.{leb, ltb, lit<, lit≤}
-use lib.ListN.{length, drop, getD, replicate, length-set, length-append, length-replicate, getD-replicate, List·getD-append, List·getD-eq-default}
-use borrow.Author.Tests.{leb-true, ltb-true, ltb-false, le-leb}
+use lib.ListN.{length, drop, replicate, length-set, length-append, length-replicate, getD-replicate, List·getD-append}
+use borrow.Author.Tests.{leb-true, ltb-true, le-leb}
+use Rattle.labels.specs.Label.{labelCount, lowest}
+use Rattle.labels.proofs.Constants.{lowest-number}
 use Rattle.causes.specs.declared.Cause.{Cause}
 use Rattle.causes.specs.declared.Cause.the-variants.{TextLength, MalformedLine, OutOfRange, InvalidPair, ShortMemory}
 use Rattle.causes.specs.declared.Outcome.{Outcome}
@@ -27,15 +28,17 @@ use Rattle.model.specs.declared.judging.Last.{Last}
 use Rattle.model.specs.declared.judging.Header.{Header}
 use Rattle.model.specs.Record.{Bank, Machine, State, machineOf, stateOf}
 use Rattle.model.specs.WellFormed.{isValid, endInRange, wellFormed, lentWhole}
-use Rattle.model.specs.Typed.{Below}
-use Rattle.model.specs.Step.{running}
+use Rattle.model.specs.Numbers.{valueCount}
+use Rattle.model.specs.Typed.{Below, BankTyped, RegistersTyped}
+use Rattle.model.specs.Ops.{isLabel}
+use Rattle.model.specs.Step.{running, setValue}
 use Rattle.model.specs.Text.{lines}
 use Rattle.model.specs.Load.{machineOfHeader, withGate, withRegister, withEntry, withLine, headerInRange, gateInRange, entryInRange, headerTests, lineTests, behindHeader, lastOf, Verdict, refuse, accept, tried, judge, judgeHeader, judgeLines, judgeText, cleared, withWord, fill, settle, load}
 use Rattle.model.specs.Noninterference.{Loaded}
 use Rattle.model.specs.Program.{stateOfLoad}
-use Rattle.model.proofs.Truth.{choice, either, and-iff, clash}
+use Rattle.model.proofs.Truth.{choice, and-iff, clash}
 use Rattle.model.proofs.Ready.{FixedFit, none, fit, fits, Ready}
-use Rattle.model.proofs.Step.{below-set}
+use Rattle.model.proofs.Step.{value-typed, label-typed}
 
 -- ---- the state while the lines are read
 
@@ -48,15 +51,9 @@ record Started (c : Control) : Type 0 where
   end : c .end ≡ 0
   why : c .why ≡ 0
 
--- Sixteen registers of 32 bits.
-record Filed (b : Bank) : Type 0 where
-  bits : (k : ℕ) → getD (b .values) k 0 < 2 ^ 32
-  values : length (b .values) ≡ 16
-  labels : length (b .labels) ≡ 16
-
--- Memory of at least the size, with words of 32 bits below it.
+-- Memory of at least the size, with words of 32 bits and labels below it.
 record Lent (size : ℕ) (m : Bank) : Type 0 where
-  bits : (k : ℕ) → k < size → getD (m .values) k 0 < 2 ^ 32
+  numbers : BankTyped size m
   words : size ≤ length (m .values)
   labels : size ≤ length (m .labels)
 
@@ -64,7 +61,7 @@ record Lent (size : ℕ) (m : Bank) : Type 0 where
 record InOrder (r : Machine) (m : Bank) : Type 0 where
   fixed : FixedFit (r .fixed)
   started : Started (r .control)
-  registers : Filed (r .registers)
+  registers : RegistersTyped (r .registers)
   memory : Lent (r .fixed .size) m
 
 -- One more gate.
@@ -89,6 +86,13 @@ gate-in-order r m pc p t h e =
       memory = h .memory;
     }
 
+-- One entry set.
+entry-typed : {n : ℕ} (b : Bank) (k l v : ℕ) → k < length (b .values) → k < length (b .labels) → isLabel l ≡ true
+    → ltb v valueCount ≡ true → BankTyped n b → BankTyped n (withEntry b k l v)
+unfolding isLabel
+entry-typed b k l v i j e f t =
+    label-typed (setValue v b k) k l j (ltb-true l labelCount e) (value-typed b k v i (ltb-true v valueCount f) t)
+
 -- One register set.
 register-in-order : (r : Machine) (m : Bank) (k l v : ℕ) → InOrder r m → entryInRange 16 k l v ≡ true
     → InOrder (withRegister r k l v) m
@@ -97,12 +101,13 @@ register-in-order r m k l v h e =
     let q = simp and-iff at e in
     let b = r .registers in
     let i : k < length (b .values) = rw (h .registers .values) (ltb-true k 16 (q .0 .0)) in
+    let j : k < length (b .labels) = rw (h .registers .labels) (ltb-true k 16 (q .0 .0)) in
     record {
       fixed = h .fixed;
       started = h .started;
       registers =
           record {
-            bits = λ j. below-set (b .values) k v j i (ltb-true v (2 ^ 32) (q .1)) (h .registers .bits j);
+            numbers = entry-typed b k l v i j (q .0 .1) (q .1) (h .registers .numbers);
             values = length-set (b .values) k v ∙ h .registers .values;
             labels = length-set (b .labels) k l ∙ h .registers .labels;
           };
@@ -115,14 +120,16 @@ word-in-order : (r : Machine) (m : Bank) (k l v : ℕ) → InOrder r m → entry
 unfolding entryInRange
 word-in-order r m k l v h e =
     let q = simp and-iff at e in
-    let i = lt-of-lt-of-le (ltb-true k (r .fixed .size) (q .0 .0)) (h .memory .words) in
+    let k-below = ltb-true k (r .fixed .size) (q .0 .0) in
+    let i = lt-of-lt-of-le k-below (h .memory .words) in
+    let j = lt-of-lt-of-le k-below (h .memory .labels) in
     record {
       fixed = h .fixed;
       started = h .started;
       registers = h .registers;
       memory =
           record {
-            bits = λ j g. below-set (m .values) k v j i (ltb-true v (2 ^ 32) (q .1)) (h .memory .bits j g);
+            numbers = entry-typed m k l v i j (q .0 .1) (q .1) (h .memory .numbers);
             words = rw (length-set (m .values) k v) (h .memory .words);
             labels = rw (length-set (m .labels) k l) (h .memory .labels);
           };
@@ -189,17 +196,15 @@ judge-size r last n (l ∷ ls) r′ e =
 blank-lent : (n x : ℕ) (xs : List ℕ) → n ≤ length (replicate n x ++ drop n xs)
 blank-lent n x xs = rw (length-append (replicate n x) (drop n xs), length-replicate n x) (omega arith)
 
-blank-words : (n : ℕ) (xs : List ℕ) (k : ℕ) → k < n → getD (replicate n 0 ++ drop n xs) k 0 < 2 ^ 32
-blank-words n xs k h =
-    rw (List·getD-append (replicate n 0) (drop n xs) 0 k (rw (length-replicate {A = ℕ} n 0) h), getD-replicate {A = ℕ} n k 0 0 h) (lit< tt)
+-- One number n times, and whatever lies beyond.
+blank-below : {k : ℕ} (n x : ℕ) (xs : List ℕ) → x < k → Below k n (replicate n x ++ xs)
+blank-below n x xs lt i h =
+    rw (List·getD-append (replicate n x) xs 0 i (rw (length-replicate {A = ℕ} n x) h), getD-replicate {A = ℕ} n i x 0 h) lt
 
--- Sixteen blank registers.
-blank-registers : (k : ℕ) → getD (replicate 16 0) k 0 < 2 ^ 32
-blank-registers k =
-    ⊎-elim
-    (λ (e : ltb k 16 ≡ true). rw (getD-replicate {A = ℕ} 16 k 0 0 (ltb-true k 16 e)) (lit< tt))
-    (λ (e : ltb k 16 ≡ false). rw (List·getD-eq-default {A = ℕ} (replicate 16 0) 0 (ltb-false k 16 e)) (lit< tt))
-    (either (ltb k 16))
+-- Blank values and labels, and whatever lies beyond.
+blank-typed : (n : ℕ) (b : Bank)
+    → BankTyped n (record { values = replicate n 0 ++ b .values; labels = replicate n lowest ++ b .labels })
+blank-typed n b = record { values = blank-below n 0 (b .values) (lit< tt); labels = blank-below n lowest (b .labels) (rw lowest-number (lit< tt)) }
 
 -- An M line in its ranges with a valid pair gives a record in order.
 header-in-order : (h : Header) (m : Bank) → headerInRange h ≡ true → isValid (machineOfHeader h .control .pair) ≡ true
@@ -217,10 +222,10 @@ header-in-order h m e v =
             gates = lit≤ tt;
           };
       started = record { valid = v; clock = refl; first = refl; second = refl; end = refl; why = refl };
-      registers = record { bits = blank-registers; values = refl; labels = refl };
+      registers = record { numbers = blank-typed 16 (record { values = []; labels = [] }); values = refl; labels = refl };
       memory =
           record {
-            bits = blank-words (h .size) (m .values);
+            numbers = blank-typed (h .size) (record { values = drop (h .size) (m .values); labels = drop (h .size) (m .labels) });
             words = blank-lent (h .size) 0 (m .values);
             labels = blank-lent (h .size) _ (m .labels);
           };
@@ -230,7 +235,7 @@ header-in-order h m e v =
 
 -- A record and memory in order are a loaded state.
 in-order-loaded : (r : Machine) (m : Bank) → InOrder r m → Loaded (stateOf r m)
-unfolding running lentWhole Below
+unfolding running lentWhole
 in-order-loaded r m h =
     let c = h .started in
     record {
@@ -248,13 +253,7 @@ in-order-loaded r m h =
       first = c .first;
       second = c .second;
       lent = rw (le-leb _ _ (h .memory .words), le-leb _ _ (h .memory .labels));
-      typed =
-          record {
-            values = h .registers .bits;
-            words = h .memory .bits;
-            registers = h .registers .values;
-            labels = h .registers .labels;
-          };
+      typed = record { registers = h .registers; memory = h .memory .numbers };
     }
 
 -- An accepted text: an M line that passes its tests, and lines behind it that are accepted.

@@ -3,9 +3,13 @@
 -- Assumes nothing.
 use Prim.Native.Nat.{ℕ, _^_, _<_, _≤_}
 use mathlib.Core.Path.{_≡_, refl}
-use mathlib.Core.Bool.{true}
-use lib.ListN.{length}
-use borrow.Author.Tests.{leb-true, le-leb, ltb-true, lt-ltb}
+use mathlib.Core.Bool.{true, false}
+use mathlib.Core.Logic.{⊎-elim}
+use mathlib.Core.List.{List}
+use native.Mathlib.Omega.{arith}
+use lib.Dec.{ltb, lit<}
+use lib.ListN.{length, getD, List·getD-eq-default}
+use borrow.Author.Tests.{leb-true, le-leb, ltb-true, ltb-false, lt-ltb}
 use Rattle.labels.specs.Label.{principals}
 use Rattle.labels.proofs.Laws.{Flows}
 use Rattle.model.specs.declared.Pair.{Pair}
@@ -15,8 +19,9 @@ use Rattle.model.specs.declared.Call.{Call}
 use Rattle.model.specs.declared.Call.the-variants.{Empty, Gate, Upcall}
 use Rattle.model.specs.Record.{Machine, State, machineOf}
 use Rattle.model.specs.WellFormed.{isValid, fixedInRange, endInRange, upcallWellFormed, callsWellFormed, wellFormed}
-use Rattle.model.specs.Typed.{Typed}
-use Rattle.model.proofs.Truth.{and-iff, clash}
+use Rattle.model.specs.Numbers.{valueCount}
+use Rattle.model.specs.Typed.{Below, Typed}
+use Rattle.model.proofs.Truth.{either, and-iff, clash}
 
 -- The one label flows to the other.
 abbrev pub _⊑_ : ℕ → ℕ → Type 0
@@ -132,3 +137,16 @@ pub record Ready (s : State) : Type 0 where
   pub typed : Typed s
   pub words : s .fixed .size ≤ length (s .memory .values)
   pub labels : s .fixed .size ≤ length (s .memory .labels)
+
+-- A list of n numbers below k, where 0 is one: whatever is read of it is below k.
+below-anywhere : {k n : ℕ} (xs : List ℕ) → length xs ≡ n → Below k n xs → 0 < k → (i : ℕ) → getD xs i 0 < k
+below-anywhere {k} {n} xs l b z i =
+    ⊎-elim
+    (λ (e : ltb i n ≡ true). b i (ltb-true i n e))
+    (λ (e : ltb i n ≡ false). let h : length xs ≤ i = omega (arith, ltb-false i n e) in rw (List·getD-eq-default xs 0 h) z)
+    (either (ltb i n))
+
+-- The value of a register has 32 bits.
+pub register-value : (s : State) → Ready s → (k : ℕ) → getD (s .registers .values) k 0 < valueCount
+register-value s r =
+    below-anywhere (s .registers .values) (r .typed .registers .values) (r .typed .registers .numbers .values) (lit< tt)

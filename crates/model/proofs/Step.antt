@@ -1,7 +1,7 @@
 -- The laws of one step: what it writes fits and is legal, what it leaves, and where it leaves the clock.
 -- Assumes nothing.
-use Prim.Native.Nat.{ℕ, _+_, _^_, _<_, _≤_}
-use mathlib.Core.Path.{_≡_, refl, ap, _∙_, subst}
+use Prim.Native.Nat.{ℕ, _+_, _<_, _≤_}
+use mathlib.Core.Path.{_≡_, refl, sym, ap, _∙_, subst}
 use mathlib.Core.Logic.{_⊎_, inl, inr}
 use mathlib.Core.Bool.{Bool, true, false, _||_, or-true}
 use mathlib.Core.List.{List}
@@ -11,13 +11,15 @@ use lib.Dec.{eqb, ltb, lit<}
 use lib.ListN.{getD, set, length, drop}
 use lib.Seq.{drop-set-lt}
 use borrow.Author.Tests.{eq-eqb}
+use Rattle.labels.specs.Label.{labelCount}
 use Rattle.labels.proofs.Laws.{flows-trans, valid-flows}
 use Rattle.model.specs.declared.Fixed.{Fixed}
 use Rattle.model.specs.declared.Control.{Control}
-use Rattle.model.specs.Record.{State, Location, register, word, labelAt, machineOf, newest, inUpcall}
-use Rattle.model.specs.Typed.{Typed, Below}
+use Rattle.model.specs.Record.{Bank, State, Location, register, word, labelAt, machineOf, newest, inUpcall}
+use Rattle.model.specs.Numbers.{registerCount, valueCount}
+use Rattle.model.specs.Typed.{Below, BankTyped}
 use Rattle.model.specs.Ops.{Write, value, label, Change, write, goto, enter, openUpcall, openGate, closeGate, stop}
-use Rattle.model.specs.Step.{Decision, rest, spend, stall, close, carry, endTick, finish, fetch, plan, beyondLimit, inLimit, running, decide, written, causeAllowed, causeWrite, changeWrite, writeOf, changed, restored, controlAfter, apply, step}
+use Rattle.model.specs.Step.{Decision, rest, spend, stall, close, carry, endTick, finish, fetch, plan, beyondLimit, inLimit, running, decide, setValue, setLabelAt, written, causeAllowed, causeWrite, changeWrite, writeOf, changed, restored, controlAfter, apply, step}
 use Rattle.model.proofs.Truth.{choice, clash}
 use Rattle.model.proofs.Writes.{There, Lengths, lengths, set-at, written-lengths}
 use Rattle.model.proofs.Ready.{_⊑_, Fit, Ready}
@@ -56,7 +58,8 @@ write-legal s f (carries r long l u h) = change-write s h
 
 -- A register or a word that exists is there in a ready state.
 pub there : (s : State) → Ready s → (x : Location) → Inside s x → There s x
-there s r (register k) h = record { value = rw (r .typed .registers) h; label = rw (r .typed .labels) h }
+there s r (register k) h =
+    record { value = rw (r .typed .registers .values) h; label = rw (r .typed .registers .labels) h }
 there s r (word k) h = record { value = lt-of-lt-of-le h (r .words); label = lt-of-lt-of-le h (r .labels) }
 
 -- ---- what a step leaves
@@ -66,23 +69,33 @@ pub step-lengths : (s : State) → lengths (step s) ≡ lengths s
 unfolding step apply
 step-lengths s = written-lengths s (writeOf s (decide s))
 
--- What stands at j is below n after a number below n is set.
-pub below-set : {n : ℕ} (xs : List ℕ) (i v j : ℕ) → i < length xs → v < n → getD xs j 0 < n → getD (set xs i v) j 0 < n
-below-set {n} xs i v j h lt b =
-    rw (set-at xs i j v h) (choice (λ (x : ℕ). x < n) (eqb i j) v (getD xs j 0) (λ e. lt) (λ e. b))
+-- Numbers below k stay so after one below k is set.
+below-set : {k n : ℕ} (xs : List ℕ) (i v : ℕ) → i < length xs → v < k → Below k n xs → Below k n (set xs i v)
+below-set {k} xs i v h lt b j g =
+    rw (set-at xs i j v h) (choice (λ (x : ℕ). x < k) (eqb i j) v (getD xs j 0) (λ e. lt) (λ e. b j g))
 
--- Registers and words keep to 32 bits.
-written-below : (s : State) → Ready s → {w : Write} → LegalWrite s w
-    → ((k : ℕ) → getD (written s w .registers .values) k 0 < 2 ^ 32)
-    × ((k : ℕ) → k < s .fixed .size → getD (written s w .memory .values) k 0 < 2 ^ 32)
-unfolding written Below
-written-below s r keeps = (r .typed .values, r .typed .words)
-written-below s r (sets {x = register k} {v = v} h p lt) =
-    (λ j. below-set (s .registers .values) k v j (there s r (register k) h .value) lt (r .typed .values j), r .typed .words)
-written-below s r (sets {x = word k} {v = v} h p lt) =
-    (r .typed .values, λ j g. below-set (s .memory .values) k v j (there s r (word k) h .value) lt (r .typed .words j g))
-written-below s r (marks {x = register k} h p l) = (r .typed .values, r .typed .words)
-written-below s r (marks {x = word k} h p l) = (r .typed .values, r .typed .words)
+-- So do values and labels, after a value or a label is set.
+pub value-typed : {n : ℕ} (b : Bank) (k v : ℕ) → k < length (b .values) → v < valueCount → BankTyped n b
+    → BankTyped n (setValue v b k)
+value-typed b k v h lt t = record { values = below-set (b .values) k v h lt (t .values); labels = t .labels }
+
+pub label-typed : {n : ℕ} (b : Bank) (k l : ℕ) → k < length (b .labels) → l < labelCount → BankTyped n b
+    → BankTyped n (setLabelAt l b k)
+label-typed b k l h lt t = record { values = t .values; labels = below-set (b .labels) k l h lt (t .labels) }
+
+-- Registers, and words below the size, keep to their types.
+written-typed : (s : State) → Ready s → {w : Write} → LegalWrite s w
+    → BankTyped registerCount (written s w .registers) × BankTyped (s .fixed .size) (written s w .memory)
+unfolding written
+written-typed s r keeps = (r .typed .registers .numbers, r .typed .memory)
+written-typed s r (sets {x = register k} {v = v} h p lt) =
+    (value-typed (s .registers) k v (there s r (register k) h .value) lt (r .typed .registers .numbers), r .typed .memory)
+written-typed s r (sets {x = word k} {v = v} h p lt) =
+    (r .typed .registers .numbers, value-typed (s .memory) k v (there s r (word k) h .value) lt (r .typed .memory))
+written-typed s r (marks {x = register k} {l = l} h p q lt) =
+    (label-typed (s .registers) k l (there s r (register k) h .label) lt (r .typed .registers .numbers), r .typed .memory)
+written-typed s r (marks {x = word k} {l = l} h p q lt) =
+    (r .typed .registers .numbers, label-typed (s .memory) k l (there s r (word k) h .label) lt (r .typed .memory))
 
 -- Words and labels at or beyond the size.
 written-beyond : (s : State) {w : Write} → LegalWrite s w
@@ -92,8 +105,8 @@ unfolding written
 written-beyond s keeps = (refl, refl)
 written-beyond s (sets {x = register k} h p lt) = (refl, refl)
 written-beyond s (sets {x = word k} {v = v} h p lt) = (drop-set-lt _ (s .memory .values) k v h, refl)
-written-beyond s (marks {x = register k} h p l) = (refl, refl)
-written-beyond s (marks {x = word k} {l = m} h p l) = (refl, drop-set-lt _ (s .memory .labels) k m h)
+written-beyond s (marks {x = register k} h p l n) = (refl, refl)
+written-beyond s (marks {x = word k} {l = m} h p l n) = (refl, drop-set-lt _ (s .memory .labels) k m h)
 
 -- What a step writes is legal.
 pub step-write : (s : State) → Ready s → LegalWrite s (writeOf s (decide s))
@@ -108,18 +121,21 @@ step-beyond s r = written-beyond s (step-write s r)
 
 -- A step of a ready state gives a ready state.
 pub step-ready : (s : State) → Ready s → Ready (step s)
-unfolding step apply Below
+unfolding step apply
 step-ready s r =
-    let b = written-below s r (step-write s r) in
+    let b = written-typed s r (step-write s r) in
     let n = step-lengths s in
     record {
       fit = step-fit s r;
       typed =
           record {
-            values = b .0;
-            words = λ k h. b .1 k (subst (λ (f : Fixed). k < f .size) (step-fixed s) h);
-            registers = ap (λ (x : Lengths). x .values) n ∙ r .typed .registers;
-            labels = ap (λ (x : Lengths). x .labels) n ∙ r .typed .labels;
+            registers =
+                record {
+                  values = ap (λ (x : Lengths). x .values) n ∙ r .typed .registers .values;
+                  labels = ap (λ (x : Lengths). x .labels) n ∙ r .typed .registers .labels;
+                  numbers = b .0;
+                };
+            memory = subst (λ (f : Fixed). BankTyped (f .size) (step s .memory)) (sym (step-fixed s)) (b .1);
           };
       words = rw (step-fixed s, ap (λ (x : Lengths). x .words) n) (r .words);
       labels = rw (step-fixed s, ap (λ (x : Lengths). x .tags) n) (r .labels);

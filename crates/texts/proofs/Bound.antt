@@ -1,4 +1,4 @@
--- How long a listing can be: at most 45,478 bytes for a well-formed record whose numbers are within their types.
+-- How long a listing can be: at most 45,478 bytes for a well-formed record whose numbers have their types.
 -- Assumes nothing.
 use Prim.Native.Nat.{ℕ, zero, suc, _+_, _*_, _^_, _<_, _≤_}
 use mathlib.Core.Path.{_≡_}
@@ -12,42 +12,16 @@ use borrow.Author.Tests.{leb-true, eqb-true}
 use Rattle.model.specs.declared.Pair.{Pair}
 use Rattle.model.specs.declared.Control.{Control}
 use Rattle.model.specs.declared.Call.{Call}
-use Rattle.model.specs.declared.Call.the-variants.{Empty, Gate, Upcall}
 use Rattle.model.specs.Record.{Bank, State, machineOf}
-use Rattle.model.specs.WellFormed.{endInRange, wellFormed}
+use Rattle.model.specs.Numbers.{valueCount}
+use Rattle.model.specs.WellFormed.{endInRange}
+use Rattle.model.specs.Typed.{BankTyped, PairTyped, CallTyped, ControlTyped, Typed}
 use Rattle.model.specs.Listing.{decimal, line, endFields, callLine, isListed, entryLine, entryLines, listing}
 use Rattle.model.proofs.Truth.{and-iff, choice}
-use Rattle.model.proofs.Ready.{Fit, CallsFit, none, gate, upcall, both, fit}
+use Rattle.model.proofs.Ready.{Fit, CallsFit, none, gate, upcall, both}
 use Rattle.texts.proofs.Decimal.{digits-below}
 use Rattle.texts.proofs.Fields.{three-fields, five-fields, six-fields}
 use Rattle.texts.proofs.Listing.{cond-most, head-length, entryAt, listing-length}
-
--- ---- what the types of the code say
-
--- Both labels of a pair are bytes.
-pub record LabelPair (q : Pair) : Type 0 where
-  pub pc : q .pc < 256
-  pub timing : q .timing < 256
-
--- The numbers that a call keeps; well-formedness bounds the end tick.
-abbrev pub KeptInTypes : Call → Type 0
-KeptInTypes Empty = Unit {0}
-KeptInTypes (Gate k q) = (k < 2 ^ 32) × LabelPair q
-KeptInTypes (Upcall k q e) = (k < 2 ^ 32) × LabelPair q
-
--- Of the first n entries: values below 2^32, labels below 256.
-pub record BankInTypes (n : ℕ) (b : Bank) : Type 0 where
-  pub values : (k : ℕ) → k < n → getD (b .values) k 0 < 2 ^ 32
-  pub labels : (k : ℕ) → k < n → getD (b .labels) k 0 < 256
-
--- The numbers of a state.
-pub record InTypes (s : State) : Type 0 where
-  pub pc : s .control .pc < 2 ^ 32
-  pub pair : LabelPair (s .control .pair)
-  pub first : KeptInTypes (s .control .first)
-  pub second : KeptInTypes (s .control .second)
-  pub registers : BankInTypes 16 (s .registers)
-  pub memory : BankInTypes (s .fixed .size) (s .memory)
 
 -- ---- the E line
 
@@ -63,7 +37,7 @@ end-most c e =
           (h .1),
     )
 
-end-bound : (s : State) → Fit (machineOf s) → InTypes s → length (line 69 (endFields (s .control))) ≤ 34
+end-bound : (s : State) → Fit (machineOf s) → ControlTyped (s .control) → length (line 69 (endFields (s .control))) ≤ 34
 end-bound s f t =
     let c = s .control in
     let e = end-most c (f .end) in
@@ -80,7 +54,7 @@ end-bound s f t =
 
 -- ---- F lines
 
-call-bound : (kind k e : ℕ) (q : Pair) → kind < 10 → k < 2 ^ 32 → LabelPair q → e < 2 ^ 33
+call-bound : (kind k e : ℕ) (q : Pair) → kind < 10 → k < valueCount → PairTyped q → e < 2 ^ 33
     → length (line 70 (kind ∷ k ∷ q .pc ∷ q .timing ∷ e ∷ [])) ≤ 34
 call-bound kind k e q i h t l =
     omega (
@@ -93,22 +67,22 @@ call-bound kind k e q i h t l =
       digits-below 9 e (omega arith),
     )
 
-calls-bound : {now : Pair} {clock : ℕ} {x y : Call} → CallsFit now clock x y → KeptInTypes x → KeptInTypes y
+calls-bound : {now : Pair} {clock : ℕ} {x y : Call} → CallsFit now clock x y → CallTyped x → CallTyped y
     → length (callLine x) + length (callLine y) ≤ 68
 calls-bound none t u = omega arith
-calls-bound (gate {k} {q} h) t u = omega (arith, call-bound 1 k 0 q (omega arith) (t .0) (t .1) (omega arith))
-calls-bound (upcall {k} {e} {q} h) t u = omega (arith, call-bound 2 k e q (omega arith) (t .0) (t .1) (h .bounded))
+calls-bound (gate {k} {q} h) t u = omega (arith, call-bound 1 k 0 q (omega arith) (t .back) (t .pair) (omega arith))
+calls-bound (upcall {k} {e} {q} h) t u = omega (arith, call-bound 2 k e q (omega arith) (t .back) (t .pair) (h .bounded))
 calls-bound (both {k} {j} {e} {q} {r} v h) t u =
     omega (
       arith,
-      call-bound 1 k 0 q (omega arith) (t .0) (t .1) (omega arith),
-      call-bound 2 j e r (omega arith) (u .0) (u .1) (h .bounded),
+      call-bound 1 k 0 q (omega arith) (t .back) (t .pair) (omega arith),
+      call-bound 2 j e r (omega arith) (u .back) (u .pair) (h .bounded),
     )
 
 -- ---- R and W lines
 
 -- An entry whose number has at most so many digits.
-entry-bound : (letter : ℕ) (b : Bank) (w n k : ℕ) → BankInTypes n b → k < n → length (decimal k) ≤ w
+entry-bound : (letter : ℕ) (b : Bank) (w n k : ℕ) → BankTyped n b → k < n → length (decimal k) ≤ w
     → length (entryAt letter b k) ≤ 18 + w
 unfolding entryLine
 entry-bound letter b w n k t i h =
@@ -121,7 +95,7 @@ entry-bound letter b w n k t i h =
     )
 
 -- Some of the first m entries, which are at most 10^(w + 1).
-some-entries : (letter : ℕ) (b : Bank) (w m j n : ℕ) → BankInTypes m b → m ≤ 10 ^ suc w → j + n ≤ m
+some-entries : (letter : ℕ) (b : Bank) (w m j n : ℕ) → BankTyped m b → m ≤ 10 ^ suc w → j + n ≤ m
     → length (entryLines letter b j n) ≤ (18 + suc w) * n
 unfolding entryLines
 some-entries letter b w m j zero t h i = omega arith
@@ -132,24 +106,23 @@ some-entries letter b w m j (suc n) t h i =
     (omega (arith, entry-bound letter b (suc w) m j t (omega arith) d, some-entries letter b w m (j + 1) n t h (omega arith))))
 
 -- All of them.
-pub entries-bound : (letter : ℕ) (b : Bank) (w n : ℕ) → BankInTypes n b → n ≤ 10 ^ suc w
+pub entries-bound : (letter : ℕ) (b : Bank) (w n : ℕ) → BankTyped n b → n ≤ 10 ^ suc w
     → length (entryLines letter b 0 n) ≤ (18 + suc w) * n
 entries-bound letter b w n t h = some-entries letter b w n 0 n t h (omega arith)
 
 -- ---- the listing
 
--- The listing of a well-formed record whose numbers are within their types takes at most 45,478 bytes: 34 for the E line,
+-- The listing of a well-formed record whose numbers have their types takes at most 45,478 bytes: 34 for the E line,
 -- 34 for each of two F lines, 20 for each of 16 R lines and 22 for each of 2,048 W lines.
-pub listing-bound : (s : State) → wellFormed (machineOf s) ≡ true → InTypes s → length (listing s) ≤ 45478
-listing-bound s e t =
-    let f = fit (machineOf s) e in
+pub listing-bound : (s : State) → Fit (machineOf s) → ControlTyped (s .control) → Typed s → length (listing s) ≤ 45478
+listing-bound s f c t =
     rw (listing-length s)
     (omega (
       arith,
       head-length (s .control),
-      end-bound s f t,
-      calls-bound (f .calls) (t .first) (t .second),
-      entries-bound 82 (s .registers) 1 16 (t .registers) (omega arith),
+      end-bound s f c,
+      calls-bound (f .calls) (c .first) (c .second),
+      entries-bound 82 (s .registers) 1 16 (t .registers .numbers) (omega arith),
       entries-bound 87 (s .memory) 3 (s .fixed .size) (t .memory) (omega (arith, f .fixed .sizeHigh)),
       f .fixed .sizeHigh,
     ))

@@ -1,4 +1,4 @@
--- What the programs print fits their buffer: every reply takes at most 46,438 bytes, for every text and every memory, so
+-- What the programs print fits their buffer: every reply takes at most 45,718 bytes, for every text and every memory, so
 -- that an output of 65,536 bytes is never too short. Nor is a memory of 2,048 words and labels.
 -- Assumes nothing.
 use Prim.Native.Nat.{ℕ, _≤_}
@@ -9,7 +9,7 @@ use lib.ListN.{length, take, drop, length-append, length-replicate}
 use lib.Seq.{take-append-seam}
 use borrow.Author.Tests.{le-leb}
 use Rattle.causes.specs.declared.Cause.the-variants.{ShortMemory}
-use Rattle.causes.specs.declared.Outcome.the-variants.{Done, Refused}
+use Rattle.causes.specs.declared.Outcome.the-variants.{Refused}
 use Rattle.causes.specs.Causes.{numberOf, isDone}
 use Rattle.causes.proofs.Numbers.{is-done}
 use Rattle.model.specs.Record.{Bank, State}
@@ -19,41 +19,30 @@ use Rattle.model.specs.Listing.{listing}
 use Rattle.model.specs.Program.{stateOfLoad, reply, Firing, fire, fireWhole, programMemory}
 use Rattle.model.proofs.Truth.{choice}
 use Rattle.model.proofs.Ready.{Ready}
-use Rattle.model.proofs.Run.{run-leaves}
 use Rattle.model.proofs.Load.{load-not-short}
-use Rattle.model.proofs.Program.{load-ready, run-load-ready}
+use Rattle.model.proofs.Program.{run-load-ready}
 use Rattle.texts.proofs.Fields.{line-most}
-use Rattle.texts.proofs.Listing.{head-most, entries-most, listing-length}
+use Rattle.texts.proofs.Listing.{head-most, listing-length}
 use Rattle.texts.proofs.Bound.{entries-bound}
-use Rattle.texts.proofs.WordLabels.{Bytes, run-labels, load-bytes}
 
--- The listing of a ready state whose word labels are bytes: 342 bytes for the E and F lines, 65 for each R line and 22
--- for each W line are enough.
-ready-bound : (s : State) → Ready s → Bytes (s .fixed .size) (s .memory .labels) → length (listing s) ≤ 46438
-ready-bound s r b =
+-- The listing of a ready state: 342 bytes for the E and F lines, 20 for each R line and 22 for each W line are enough.
+ready-bound : (s : State) → Ready s → length (listing s) ≤ 45718
+ready-bound s r =
     rw (listing-length s)
     (omega (
       arith,
       head-most (s .control),
-      entries-most 82 (s .registers) 0 16,
-      entries-bound 87 (s .memory) 3 (s .fixed .size) (record { values = r .typed .words; labels = b .below })
-          (omega (arith, r .fit .fixed .sizeHigh)),
+      entries-bound 82 (s .registers) 1 16 (r .typed .registers .numbers) (omega arith),
+      entries-bound 87 (s .memory) 3 (s .fixed .size) (r .typed .memory) (omega (arith, r .fit .fixed .sizeHigh)),
       r .fit .fixed .sizeHigh,
     ))
 
--- The listing after the run of an accepted text.
-run-bound : (text : List ℕ) (m : Bank) → load text m .outcome ≡ Done → length (listing (run (stateOfLoad (load text m)))) ≤ 46438
-run-bound text m e =
-    let s = stateOfLoad (load text m) in
-    let f = run-leaves s (load-ready text m e) .fixed in
-    ready-bound (run s) (run-load-ready text m e) (rw (f, run-labels s) (load-bytes text m))
-
 -- A reply: that listing, or a refusal's line.
-pub reply-bound : (text : List ℕ) (m : Bank) → length (reply (load text m)) ≤ 46438
+pub reply-bound : (text : List ℕ) (m : Bank) → length (reply (load text m)) ≤ 45718
 unfolding reply
 reply-bound text m =
     let a = load text m in
-    choice (λ (o : List ℕ). length o ≤ 46438) (isDone (a .outcome)) _ _ (λ e. run-bound text m (is-done (a .outcome) e))
+    choice (λ (o : List ℕ). length o ≤ 45718) (isDone (a .outcome)) _ _ (λ e. ready-bound (run (stateOfLoad a)) (run-load-ready text m (is-done (a .outcome) e)))
     (λ e. omega (arith, line-most 88 (numberOf (a .outcome) ∷ a .line ∷ [])))
 
 -- So an output of 65,536 bytes gets the reply whole.

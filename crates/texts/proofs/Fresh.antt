@@ -155,8 +155,8 @@ module _ (r : Machine) (m n : Bank) (a : Agree (r .fixed .size) m n) where
             rw (set-at (m .values) k j v (lt-of-lt-of-le h x), set-at (n .values) k j v (lt-of-lt-of-le h z), a .values j g);
         labels = a .labels;
       }
-  written-agree x y z u (marks {x = register k} h p l) = a
-  written-agree x y z u (marks {x = word k} {l = l} h p q) =
+  written-agree x y z u (marks {x = register k} h p l lt) = a
+  written-agree x y z u (marks {x = word k} {l = l} h p q lt) =
       record {
         values = a .values;
         labels = λ j g.

@@ -9,6 +9,5 @@ pub mod Fields
 pub mod ReadBack
 pub mod Listing
 pub mod Bound
-mod WordLabels
 pub mod Buffer
 pub mod Fresh

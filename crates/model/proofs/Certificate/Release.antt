@@ -194,7 +194,7 @@ module _ (ℓ : ℕ) (s : State) (r : Ready s) (quiet : attempts ℓ s ≡ false
   unfolding written
   label-kept e keeps y o = o
   label-kept e (sets {x = x} {v = v} i h b) y o = ap (within ℓ) (label-after-value s x y v) ∙ o
-  label-kept e (marks {x = x} {l = l} i h k) y o =
+  label-kept e (marks {x = x} {l = l} i h k n) y o =
       ap (within ℓ) (label-after-label s x y l (there s r x i)) ∙ go (same x y) refl
     where
       go : (b : Bool) → same x y ≡ b → within ℓ (cond b l (labelAt s y)) ≡ false

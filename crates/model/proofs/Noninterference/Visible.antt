@@ -480,7 +480,7 @@ sighted ℓ s r e p (sets {x = x} i h v) =
     (λ (k : within ℓ (labelAt s x) ≡ true). inl (sight.sets k))
     (λ (k : within ℓ (labelAt s x) ≡ false). inr (sight.sets k))
     (either (within ℓ (labelAt s x)))
-sighted ℓ s r e p (marks {x = x} {l = l} i h v) =
+sighted ℓ s r e p (marks {x = x} {l = l} i h v n) =
     ⊎-elim
     (λ (k : within ℓ (labelAt s x) ≡ true). inl (sight.marks k))
     (λ (k : within ℓ (labelAt s x) ≡ false). inr (sight.marks k (no-downgrade ℓ s x l r i e p k)))
