@@ -6,6 +6,8 @@ use Rattle.causes.specs.declared.Cause.the-variants.{ShortMemory, IllFormed}
 use Rattle.causes.specs.declared.Outcome.{Outcome}
 use Rattle.causes.specs.declared.Outcome.the-variants.{Done, Refused}
 use Rattle.causes.specs.Tests.{unless}
+use Rattle.model.specs.declared.Request.{Request}
+use Rattle.model.specs.declared.Request.the-variants.{Step, Run}
 use Rattle.model.specs.Record.{Bank, Machine, State, machineOf, stateOf}
 use Rattle.model.specs.WellFormed.{wellFormed, lentWhole}
 use Rattle.model.specs.Step.{step, run}
@@ -30,10 +32,19 @@ answer f r m =
     unless (wellFormed r) (refused IllFormed r m)
     (unless (lentWhole (r .fixed) (m .values) (m .labels)) (refused ShortMemory r m) (done (f (stateOf r m))))
 
+-- What a call asks for: one step, or the run.
+abbrev pub work : Request → State → State
+work Step = step
+work Run = run
+
+-- The answer of a call.
+abbrev pub answerOf : Request → Machine → Bank → Answer
+answerOf q = answer (work q)
+
 -- The answer of step.
 abbrev pub stepAnswer : Machine → Bank → Answer
-stepAnswer = answer step
+stepAnswer = answerOf Step
 
 -- The answer of run.
 abbrev pub runAnswer : Machine → Bank → Answer
-runAnswer = answer run
+runAnswer = answerOf Run

@@ -1,7 +1,7 @@
 -- Loading a text: document 01, "Text", its first paragraph, the refusals 1 to 6 of its table and their order. A refusal
 -- leaves the lent words and labels; an accepted text sets all that lie below the size.
 -- Assumes nothing.
-use Prim.Native.Nat.{ℕ, _+_, _^_}
+use Prim.Native.Nat.{ℕ, _+_}
 use mathlib.Core.Bool.{Bool, false, not, _&&_, _||_}
 use mathlib.Core.List.{List, [], _∷_, _++_}
 use lib.Dec.{leb, ltb, eqb}

@@ -11,21 +11,19 @@ use lib.Seq.{sets}
 use Rattle.causes.specs.declared.Outcome.the-variants.{Done}
 use Rattle.causes.specs.Causes.{isDone}
 use Rattle.model.specs.declared.Call.the-variants.{Empty}
-use Rattle.model.specs.Record.{Bank, Machine, State, Location, machineOf, stateOf, labelAt}
+use Rattle.model.specs.declared.Request.{Request}
+use Rattle.model.specs.declared.Request.the-variants.{Step, Run}
+use Rattle.model.specs.Record.{Bank, State, Location, machineOf, stateOf, labelAt}
 use Rattle.model.specs.WellFormed.{wellFormed, lentWhole}
 use Rattle.model.specs.Typed.{Typed}
 use Rattle.model.specs.Ops.{Change, write, goto, enter, openUpcall, openGate, closeGate, stop, noGate}
 use Rattle.model.specs.Step.{Decision, rest, spend, stall, close, carry, running, decide, step}
-use Rattle.model.specs.Answer.{Answer, stepAnswer, runAnswer}
+use Rattle.model.specs.Answer.{Answer, answerOf}
 use Rattle.model.specs.Load.{Loading, load}
 use Rattle.model.specs.Program.{stateOfLoad}
 use Rattle.model.specs.Seen.{within, exists, LowEquivalent}
 
 -- ---- a sequence of calls
-
--- A call is of step or of run.
-pub data Kind : Type 0 where
-  stepCall runCall : Kind
 
 -- What is lent of the words, or of the labels: the whole as it stands, or a part that begins at an index and has so many
 -- elements, but always fewer than the size.
@@ -33,9 +31,9 @@ pub data Lent : Type 0 where
   whole : Lent
   part : ℕ → ℕ → Lent
 
--- A call, with what it is lent of the words and of the labels.
+-- A call, of step or of run, with what it is lent of the words and of the labels.
 pub record Invocation : Type 0 where
-  pub kind : Kind
+  pub request : Request
   pub words : Lent
   pub labels : Lent
 
@@ -49,15 +47,10 @@ unfoldable pub regain : Lent → List ℕ → List ℕ → List ℕ
 regain whole xs out = out
 regain (part from count) xs out = sets xs from out
 
--- The definition of the public call's answer.
-abbrev pub answerOf : Kind → Machine → Bank → Answer
-answerOf stepCall = stepAnswer
-answerOf runCall = runAnswer
-
--- A call takes the record that the last one returned, and memory as it then stands.
+-- A call takes the record that the last one returned, and memory as it then stands. Its answer is that of the public call.
 unfoldable pub answered : Invocation → State → Answer
 answered q s =
-    answerOf (q .kind) (machineOf s)
+    answerOf (q .request) (machineOf s)
     (record { values = lend (s .fixed .size) (q .words) (s .memory .values); labels = lend (s .fixed .size) (q .labels) (s .memory .labels) })
 
 -- The next call gets the record that this one gave back, and memory as this one left it.
@@ -79,13 +72,13 @@ runStates zero s = []
 runStates (suc k) s = let more = step s ∷ runStates k (step s) in cond (running s) more []
 
 -- The states after the steps that a call does: a step does one, a run as many as it does.
-unfoldable pub workStates : Kind → State → List State
-workStates stepCall s = step s ∷ []
-workStates runCall s = runStates (s .fixed .limit - s .control .clock + 1) s
+unfoldable pub workStates : Request → State → List State
+workStates Step s = step s ∷ []
+workStates Run s = runStates (s .fixed .limit - s .control .clock + 1) s
 
 -- The states that a call adds to the trace: a refused one adds none.
 unfoldable pub callStates : Invocation → State → List State
-callStates q s = cond (isDone (answered q s .outcome)) (workStates (q .kind) s) []
+callStates q s = cond (isDone (answered q s .outcome)) (workStates (q .request) s) []
 
 -- The trace of a sequence of calls: the states after the loaded one, one for each step done.
 unfoldable pub trace : List Invocation → State → List State

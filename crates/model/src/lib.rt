@@ -24,6 +24,12 @@ pub enum Call {
     Upcall(u32, Pair, u64),
 }
 
+// What a call asks of the machine: one step, or the run.
+pub enum Request {
+    Step,
+    Run,
+}
+
 // What no step changes.
 pub struct Fixed {
     pub size: u32,

@@ -22,7 +22,9 @@ use Rattle.model.specs.Step.{running, decide, moved, opened, ended, step}
 use Rattle.model.specs.Load.{load}
 use Rattle.model.specs.Listing.{line, entryLines}
 use Rattle.model.specs.Seen.{within, Seen, hidden, shown, seenAt, SeenControl, unseen, seen, seenControl, LowEquivalent}
-use Rattle.model.specs.Noninterference.{Kind, stepCall, runCall, whole, part, Invocation, trace, final, atTick, reached, downgrades, callsGate, gateCallsIn, timedFromOutside}
+use Rattle.model.specs.declared.Request.{Request}
+use Rattle.model.specs.declared.Request.the-variants.{Step, Run}
+use Rattle.model.specs.Noninterference.{whole, part, Invocation, trace, final, atTick, reached, downgrades, callsGate, gateCallsIn, timedFromOutside}
 use Rattle.model.specs.Facts.{wordOf, end, stop, every}
 
 -- ---- the terms of the statement, as tests
@@ -208,23 +210,23 @@ machine f c program registers extra =
 -- ---- the calls
 
 -- A call lent all.
-abbrev pub call : Kind → Invocation
-call k = record { kind = k; words = whole; labels = whole }
+abbrev pub call : Request → Invocation
+call k = record { request = k; words = whole; labels = whole }
 
 -- Steps one by one.
 abbrev pub stepping : ℕ → List Invocation
-stepping n = replicate n (call stepCall)
+stepping n = replicate n (call Step)
 
 -- One run.
 abbrev pub oneRun : List Invocation
-oneRun = call runCall ∷ []
+oneRun = call Run ∷ []
 
 -- Calls that are lent too short a part: of the words, of the labels, of both.
 abbrev pub refusals : List Invocation
 refusals =
-    record { kind = stepCall; words = part 2 3; labels = whole }
-    ∷ record { kind = runCall; words = whole; labels = part 0 5 }
-    ∷ record { kind = stepCall; words = part 20 40; labels = part 1 100 }
+    record { request = Step; words = part 2 3; labels = whole }
+    ∷ record { request = Run; words = whole; labels = part 0 5 }
+    ∷ record { request = Step; words = part 20 40; labels = part 1 100 }
     ∷ []
 
 -- Steps one by one, with refused calls in between.

@@ -13,12 +13,14 @@ use lib.ListN.{length, take, drop, length-take, drop-of-length-le}
 use lib.Seq.{sets, set-getD, drop-cons}
 use borrow.Author.Tests.{leb-true, leb-false, ltb-true, ltb-false, le-ltb, lt-leb, le-leb}
 use Rattle.model.specs.declared.Fixed.{Fixed}
-use Rattle.model.specs.Record.{Bank, Machine, State, machineOf}
+use Rattle.model.specs.declared.Request.{Request}
+use Rattle.model.specs.declared.Request.the-variants.{Step, Run}
+use Rattle.model.specs.Record.{Bank, State, machineOf}
 use Rattle.model.specs.WellFormed.{lentWhole}
 use Rattle.model.specs.Step.{running, step, steps, run}
 use Rattle.causes.specs.declared.Cause.the-variants.{ShortMemory}
-use Rattle.model.specs.Answer.{Answer, answer, refused, done}
-use Rattle.model.specs.Noninterference.{Kind, stepCall, runCall, Lent, whole, part, Invocation, lend, regain, answerOf, answered, after, afterAll, runStates, workStates, callStates, trace, final, atTick, reached, StepsProvisos}
+use Rattle.model.specs.Answer.{answer, refused, done, work}
+use Rattle.model.specs.Noninterference.{Lent, whole, part, Invocation, lend, regain, answered, after, afterAll, runStates, workStates, callStates, trace, final, atTick, reached, StepsProvisos}
 use Rattle.model.proofs.Truth.{either, not-iff}
 use Rattle.model.proofs.Ready.{fits, Ready}
 use Rattle.model.proofs.Step.{step-ready, step-passes}
@@ -64,21 +66,11 @@ run-row (suc n) s =
     (λ (r : running s ≡ false). record { count = 0; states = rw r; last = steps-ended (suc n) s r })
     (either (running s))
 
--- What a call of each kind does.
-abbrev work : Kind → State → State
-work stepCall = step
-work runCall = run
-
--- Its answer is the definition of the public call's.
-answer-work : (k : Kind) → answerOf k ≡ answer (work k)
-answer-work stepCall = refl
-answer-work runCall = refl
-
 -- What a call does is so many steps in a row.
-work-row : (k : Kind) (s : State) → Row s (workStates k s) (work k s)
+work-row : (k : Request) (s : State) → Row s (workStates k s) (work k s)
 unfolding workStates run steps
-work-row stepCall s = record { count = 1; states = refl; last = refl }
-work-row runCall s = run-row (s .fixed .limit - s .control .clock + 1) s
+work-row Step s = record { count = 1; states = refl; last = refl }
+work-row Run s = run-row (s .fixed .limit - s .control .clock + 1) s
 
 -- A part that is lent is shorter than the size.
 part-short : (size from count : ℕ) (xs : List ℕ) → 1 ≤ size → length (lend size (part from count) xs) < size
@@ -114,16 +106,13 @@ answer-short : (q : Invocation) (s : State) → Ready s
     → lentWhole (s .fixed) (lentOf q s .values) (lentOf q s .labels) ≡ false
     → answered q s ≡ refused ShortMemory (machineOf s) (lentOf q s)
 unfolding answered answer
-answer-short q s r e =
-    ap (λ (f : Machine → Bank → Answer). f (machineOf s) (lentOf q s)) (answer-work (q .kind)) ∙ rw (fits (machineOf s) (r .fit), e)
+answer-short q s r e = rw (fits (machineOf s) (r .fit), e)
 
 -- The answer of a call that is lent all.
-answer-whole : (k : Kind) (s : State) → Ready s
-    → answered (record { kind = k; words = whole; labels = whole }) s ≡ done (work k s)
+answer-whole : (k : Request) (s : State) → Ready s
+    → answered (record { request = k; words = whole; labels = whole }) s ≡ done (work k s)
 unfolding answered answer lend lentWhole
-answer-whole k s r =
-    ap (λ (f : Machine → Bank → Answer). f (machineOf s) (s .memory)) (answer-work k)
-    ∙ rw (fits (machineOf s) (r .fit), le-leb _ _ (r .words), le-leb _ _ (r .labels))
+answer-whole k s r = rw (fits (machineOf s) (r .fit), le-leb _ _ (r .words), le-leb _ _ (r .labels))
 
 -- A call that is lent too little changes nothing.
 short-row : (q : Invocation) (s : State) → Ready s
@@ -139,8 +128,8 @@ short-row q s r e =
     }
 
 -- A call that is lent all does its work.
-whole-row : (k : Kind) (s : State) → Ready s
-    → Row s (callStates (record { kind = k; words = whole; labels = whole }) s) (after (record { kind = k; words = whole; labels = whole }) s)
+whole-row : (k : Request) (s : State) → Ready s
+    → Row s (callStates (record { request = k; words = whole; labels = whole }) s) (after (record { request = k; words = whole; labels = whole }) s)
 unfolding callStates after regain
 whole-row k s r =
     let h = answer-whole k s r in
@@ -157,8 +146,8 @@ unfolding lentWhole
 short-labels f xs ys h = rw (lt-leb (f .size) (length ys) h, and-false)
 
 -- Every call's states are so many steps in a row, the last of which is what its answer gives back.
-pub call-row : (k : Kind) (w l : Lent) (s : State) → Ready s
-    → Row s (callStates (record { kind = k; words = w; labels = l }) s) (after (record { kind = k; words = w; labels = l }) s)
+pub call-row : (k : Request) (w l : Lent) (s : State) → Ready s
+    → Row s (callStates (record { request = k; words = w; labels = l }) s) (after (record { request = k; words = w; labels = l }) s)
 call-row k whole whole s r = whole-row k s r
 call-row k whole (part from count) s r =
     short-row _ s r (short-labels _ _ _ (part-short _ from count (s .memory .labels) (r .fit .fixed .sizeLow)))
@@ -174,7 +163,7 @@ pub trace-row : (qs : List Invocation) (s : State) → Ready s → Row s (trace 
 unfolding trace afterAll steps
 trace-row [] s r = record { count = 0; states = refl; last = refl }
 trace-row (q ∷ qs) s r =
-    let h = call-row (q .kind) (q .words) (q .labels) s r in
+    let h = call-row (q .request) (q .words) (q .labels) s r in
     let t = subst Ready (sym (h .last)) (steps-ready (h .count) s r) in
     let g = trace-row qs (after q s) t in
     record {
