@@ -17,7 +17,7 @@ use Rattle.model.specs.Listing.{line, listing, Printing, print}
 use Rattle.model.specs.Program.{stateOfLoad, reply, memoryAfter, Firing, fire}
 use Rattle.model.proofs.Program.{run-done, print-done, load-ready, run-load-ready}
 use Rattle.writer.specs.Writing.{Writing, answer, over, written, writing}
-use Rattle.fire.specs.Fired.{refusing}
+use Rattle.fire.specs.Inner.Refusing.{refusing}
 
 -- What was printed, and the memory, as a firing.
 abbrev printed : Printing → Bank → Firing

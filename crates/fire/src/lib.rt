@@ -10,7 +10,8 @@ ghost use lib.ListN.{length, take};
 ghost use Rattle.machine.specs.Answered.{lent};
 ghost use Rattle.model.specs.Program.{fire, fireWhole, fireAlone};
 ghost use Rattle.writer.specs.Writing.{answer};
-ghost use Rattle.fire.specs.Fired.{fired, replied, refusing};
+ghost use Rattle.fire.specs.Fired.{fired, replied};
+ghost use Rattle.fire.specs.Inner.Refusing.{refusing};
 
 // The letter of a refusal's line.
 const X: u8 = b'X';

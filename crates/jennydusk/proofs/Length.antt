@@ -23,7 +23,7 @@ unfolding print
 bytes-most r m out =
     choice (λ (a : Printing). a .bytes ≤ 2 ^ 32) (wellFormed r) _ _
     (λ w.
-    choice (λ (a : Printing). a .bytes ≤ 2 ^ 32) (lentWhole (r .fixed) (m .values) (m .labels)) _ _
+    choice (λ (a : Printing). a .bytes ≤ 2 ^ 32) (lentWhole (r .fixed .size) m) _ _
     (λ _.
     choice (λ (a : Printing). a .bytes ≤ 2 ^ 32) (leb (length (listing (stateOf r m))) (length out)) _ _
     (λ _. listing-most (stateOf r m) (fit r w .fixed .sizeHigh)) (λ _. omega arith))

@@ -5,19 +5,19 @@ pub mod Release
 pub mod Watch
 pub mod Twin
 use Prim.Native.Nat.{ℕ, zero, suc, _<_, _≤_}
-use mathlib.Core.Path.{_≡_, refl, sym, ap, _∙_, subst}
+use mathlib.Core.Path.{_≡_, sym, ap, _∙_, subst}
 use mathlib.Core.Logic.{⊎-elim}
 use mathlib.Core.Bool.{true, false}
 use mathlib.Core.List.{List}
 use native.Mathlib.Omega.{arith}
 use lib.Dec.{leb, ltb, eqb}
 use borrow.Author.Tests.{leb-true, leb-false, ltb-true, ltb-false, eqb-true, eqb-false}
-use Rattle.model.specs.Record.{State, newest, inUpcall}
+use Rattle.model.specs.Record.{State}
 use Rattle.model.specs.Step.{step, steps}
 use Rattle.model.specs.Load.{load}
 use Rattle.model.specs.Program.{stateOfLoad}
 use Rattle.model.specs.Seen.{LowEquivalent}
-use Rattle.model.specs.Noninterference.{Invocation, trace, StepProvisos, StepsProvisos, Provisos, Loaded, SameSetting}
+use Rattle.model.specs.Noninterference.{Invocation, trace, StepsProvisos, Provisos, Loaded, SameSetting}
 use Rattle.model.specs.Certificate.{attempts, Certified, Certificate, whole, breaks, breakAt, certify, CertifiedNoninterference, CertifyTells, OneCertificate}
 use Rattle.model.proofs.Truth.{either, clash}
 use Rattle.model.proofs.Ready.{Ready}

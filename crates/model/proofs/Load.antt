@@ -363,7 +363,7 @@ settle-not-short (accept r) ls m h e = done-or-refused refl e
 
 module _ (m : Bank) (words : 2048 ≤ length (m .values)) (labels : 2048 ≤ length (m .labels)) where
   lent-enough : (h : Header) → headerInRange h ≡ true
-      → lentWhole (machineOfHeader h .fixed) (m .values) (m .labels) ≡ true
+      → lentWhole (h .size) m ≡ true
   unfolding lentWhole
   lent-enough h e =
       let s = header-size h e in
@@ -376,7 +376,7 @@ module _ (m : Bank) (words : 2048 ≤ length (m .values)) (labels : 2048 ≤ len
       (λ e.
       choice Early (isValid (machineOfHeader h .control .pair)) _ _
       (λ v.
-      choice Early (lentWhole (machineOfHeader h .fixed) (m .values) (m .labels)) _ _
+      choice Early (lentWhole (h .size) m) _ _
       (λ l c q. done-or-refused refl q)
       (λ l. clash (lent-enough h e) l))
       (λ v. early InvalidPair (omega arith)))

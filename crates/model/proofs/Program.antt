@@ -23,7 +23,7 @@ use Rattle.model.proofs.Run.{run-ready}
 use Rattle.model.proofs.Load.{loaded-ready, load-loaded}
 
 -- A ready state's memory is lent whole.
-lent : (s : State) → Ready s → lentWhole (s .fixed) (s .memory .values) (s .memory .labels) ≡ true
+lent : (s : State) → Ready s → lentWhole (s .fixed .size) (s .memory) ≡ true
 unfolding lentWhole
 lent s r = rw (le-leb _ _ (r .words), le-leb _ _ (r .labels))
 

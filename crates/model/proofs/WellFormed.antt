@@ -1,10 +1,10 @@
 -- Well-formed records: the definition's test taken apart, and the law that a step of a well-formed record gives one.
 -- Assumes nothing.
-use Prim.Native.Nat.{ℕ, _+_, _^_, _<_, _≤_}
+use Prim.Native.Nat.{ℕ, _+_, _≤_}
 use mathlib.Core.Path.{_≡_, refl, sym, ap, _∙_, subst, subst₂}
 use mathlib.Core.Bool.{true, false, cond}
 use native.Mathlib.Omega.{arith}
-use borrow.Author.Tests.{leb-true, le-leb, ltb-true, lt-ltb}
+use borrow.Author.Tests.{le-leb}
 use Rattle.labels.proofs.Laws.{flows-refl, flows-trans, valid-flows}
 use Rattle.model.specs.declared.Pair.{Pair}
 use Rattle.model.specs.declared.Fixed.{Fixed}
@@ -12,11 +12,10 @@ use Rattle.model.specs.declared.Control.{Control}
 use Rattle.model.specs.declared.Call.{Call}
 use Rattle.model.specs.declared.Call.the-variants.{Empty, Gate, Upcall}
 use Rattle.model.specs.Record.{Machine, State, machineOf, newest, inUpcall, isEmpty, isGate, isUpcall, endTickOf, pairOf}
-use Rattle.model.specs.WellFormed.{isValid, fixedInRange, endInRange, upcallWellFormed, callsWellFormed, wellFormed}
-use Rattle.model.specs.Typed.{Typed}
+use Rattle.model.specs.WellFormed.{isValid, endInRange}
 use Rattle.model.specs.Ops.{Change}
 use Rattle.model.specs.Step.{Decision, endTick, decide, writeOf, restored, changed, controlAfter, withControl, apply, step}
-use Rattle.model.proofs.Truth.{and-iff, clash}
+use Rattle.model.proofs.Truth.{clash}
 use Rattle.model.proofs.Writes.{written-fixed}
 use Rattle.model.proofs.Ready.{_⊑_, FixedFit, UpcallFit, CallsFit, none, gate, upcall, both, Fit, Ready}
 use Rattle.model.proofs.Legal.{LegalChange, writes, goes, enters, calls, gates, returns, stops, Legal, rests, spends, stalls, closes, carries, legal}

@@ -30,7 +30,7 @@ done s = record { outcome = Done; machine = machineOf s; memory = s .memory }
 unfoldable pub answer : (State → State) → Machine → Bank → Answer
 answer f r m =
     unless (wellFormed r) (refused IllFormed r m)
-    (unless (lentWhole (r .fixed) (m .values) (m .labels)) (refused ShortMemory r m) (done (f (stateOf r m))))
+    (unless (lentWhole (r .fixed .size) m) (refused ShortMemory r m) (done (f (stateOf r m))))
 
 -- What a call asks for: one step, or the run.
 abbrev pub work : Request → State → State

@@ -102,5 +102,5 @@ unfoldable pub print : Machine → Bank → List ℕ → Printing
 print r m out =
     let text = listing (stateOf r m) in
     unless (wellFormed r) (notPrinted IllFormed r out)
-    (unless (lentWhole (r .fixed) (m .values) (m .labels)) (notPrinted ShortMemory r out)
+    (unless (lentWhole (r .fixed .size) m) (notPrinted ShortMemory r out)
     (unless (leb (length text) (length out)) (notPrinted ShortOutput r out) (printed r text out)))

@@ -110,7 +110,7 @@ unfoldable pub headerTests : Header → Bank → List Test
 headerTests h m =
     headerInRange h orElse OutOfRange
     ∷ isValid (machineOfHeader h .control .pair) orElse InvalidPair
-    ∷ lentWhole (machineOfHeader h .fixed) (m .values) (m .labels) orElse ShortMemory
+    ∷ lentWhole (h .size) m orElse ShortMemory
     ∷ []
 
 -- The tests of a line behind it, for a machine of this size with so many gates so far: 2, 4 (kind), 3, 4 (rising). No

@@ -13,7 +13,7 @@ use Rattle.causes.specs.Causes.{isDone}
 use Rattle.model.specs.declared.Call.the-variants.{Empty}
 use Rattle.model.specs.declared.Request.{Request}
 use Rattle.model.specs.declared.Request.the-variants.{Step, Run}
-use Rattle.model.specs.Record.{Bank, State, Location, machineOf, stateOf, labelAt}
+use Rattle.model.specs.Record.{Bank, State, Location, machineOf, stateOf, lent, labelAt}
 use Rattle.model.specs.WellFormed.{wellFormed, lentWhole}
 use Rattle.model.specs.Typed.{Typed}
 use Rattle.model.specs.Ops.{Change, write, goto, enter, openUpcall, openGate, closeGate, stop, noGate}
@@ -51,13 +51,14 @@ regain (part from count) xs out = sets xs from out
 unfoldable pub answered : Invocation → State → Answer
 answered q s =
     answerOf (q .request) (machineOf s)
-    (record { values = lend (s .fixed .size) (q .words) (s .memory .values); labels = lend (s .fixed .size) (q .labels) (s .memory .labels) })
+    (lent (lend (s .fixed .size) (q .words) (s .memory .values)) (lend (s .fixed .size) (q .labels) (s .memory .labels)))
 
 -- The next call gets the record that this one gave back, and memory as this one left it.
 unfoldable pub after : Invocation → State → State
 after q s =
     stateOf (answered q s .machine)
-    (record { values = regain (q .words) (s .memory .values) (answered q s .memory .values); labels = regain (q .labels) (s .memory .labels) (answered q s .memory .labels) })
+    (lent (regain (q .words) (s .memory .values) (answered q s .memory .values))
+    (regain (q .labels) (s .memory .labels) (answered q s .memory .labels)))
 
 -- The state after a sequence of calls.
 unfoldable pub afterAll : List Invocation → State → State
@@ -159,7 +160,7 @@ pub record Loaded (s : State) : Type 0 where
   pub clock : s .control .clock ≡ 0
   pub first : s .control .first ≡ Empty
   pub second : s .control .second ≡ Empty
-  pub lent : lentWhole (s .fixed) (s .memory .values) (s .memory .labels) ≡ true
+  pub lent : lentWhole (s .fixed .size) (s .memory) ≡ true
   pub typed : Typed s
 
 -- Equal size, gates (their number and each of them), error pc and limit.

@@ -39,6 +39,10 @@ machineOf s = record { fixed = s .fixed; control = s .control; registers = s .re
 abbrev pub stateOf : Machine → Bank → State
 stateOf r m = record { fixed = r .fixed; control = r .control; registers = r .registers; memory = m }
 
+-- Lent words and label bytes.
+abbrev pub lent : List ℕ → List ℕ → Bank
+lent words labels = record { values = words; labels = labels }
+
 -- A location: a register by its number, or a word by its address.
 pub data Location : Type 0 where
   register : ℕ → Location

@@ -2,7 +2,6 @@
 -- Assumes nothing.
 use Prim.Native.Nat.{ℕ, _^_}
 use mathlib.Core.Bool.{Bool, true, false, _&&_, cond}
-use mathlib.Core.List.{List}
 use lib.Dec.{leb, ltb, eqb}
 use lib.ListN.{length}
 use Rattle.labels.specs.Label.{flows, validPair}
@@ -12,7 +11,7 @@ use Rattle.model.specs.declared.Fixed.{Fixed}
 use Rattle.model.specs.declared.Control.{Control}
 use Rattle.model.specs.declared.Call.{Call}
 use Rattle.model.specs.declared.Call.the-variants.{Empty, Gate, Upcall}
-use Rattle.model.specs.Record.{Machine}
+use Rattle.model.specs.Record.{Bank, Machine}
 
 -- A pair is valid.
 abbrev pub isValid : Pair → Bool
@@ -51,5 +50,5 @@ wellFormed r =
     && callsWellFormed (r .control) (r .control .first) (r .control .second)
 
 -- The lent words and the lent labels are each at least as long as the size.
-unfoldable pub lentWhole : Fixed → List ℕ → List ℕ → Bool
-lentWhole f words labels = leb (f .size) (length words) && leb (f .size) (length labels)
+unfoldable pub lentWhole : ℕ → Bank → Bool
+lentWhole size m = leb size (length (m .values)) && leb size (length (m .labels))

@@ -14,8 +14,9 @@ use Rattle.model.specs.WellFormed.{wellFormed, lentWhole}
 use Rattle.model.specs.Listing.{listing, Printing, notPrinted, print}
 use Rattle.model.proofs.Truth.{and-iff}
 use Rattle.model.proofs.Ready.{fit}
-use Rattle.writer.specs.Writing.{over, Wrote}
-use Rattle.printer.specs.Printing.{printedWhole, Entries}
+use Rattle.writer.specs.Writing.{over}
+use Rattle.writer.specs.Inner.Wrote.{Wrote}
+use Rattle.printer.specs.Inner.Placing.{printedWhole, Entries}
 
 module _ (r : Machine) (m : Bank) (out : List ℕ) where
   -- ---- the output's length

@@ -8,9 +8,10 @@ use lib.ListN.{length, take, drop, length-append, take-append-drop}
 use lib.Seq.{drop-drop, length-take-le}
 use borrow.Author.Tests.{le-leb}
 use borrow.Rule.Slice.PartMut.{putMid}
-use Rattle.writer.specs.Writing.{over, Wrote, Writing, answer, written}
+use Rattle.writer.specs.Writing.{over, Writing, answer, written}
+use Rattle.writer.specs.Inner.Wrote.{Wrote}
 use Rattle.writer.proofs.Over.{rest, wrote-length, wrote-text, wrote-rest, wrote-room, wrote-then}
-use Rattle.printer.specs.Printing.{Placed}
+use Rattle.printer.specs.Inner.Placing.{Placed}
 
 -- What stands before a place is as if it had been written there.
 wrote-before : (at : ℕ) (out : List ℕ) → at ≤ length out → Wrote (take at out) out at out

@@ -15,7 +15,7 @@ use Rattle.model.specs.declared.format.Number.the-variants.{Value, Bad as BadNu
 use Rattle.model.specs.declared.format.Span.{Span}
 use Rattle.model.specs.Text.{isDigit, digits, decimalFrom, wellWritten, number, field, Values, BadFields, readFields, fieldCount}
 use Rattle.model.proofs.Truth.{and-iff}
-use Rattle.reader.specs.Reading.{fieldsOf}
+use Rattle.reader.specs.Inner.Reading.{fieldsOf}
 use Rattle.texts.proofs.Text.{part, digit-within, digit-range, digits-more, digits-end, first-digit, field-behind}
 
 -- ---- digits, one by one

@@ -1,1 +1,2 @@
-pub mod Reading
+-- What only the contracts of inner functions cite. The public promises cite the model alone.
+pub mod Inner

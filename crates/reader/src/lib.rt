@@ -15,7 +15,7 @@ ghost use lib.Dec.{ltb};
 ghost use lib.ListN.{length, getD};
 ghost use Rattle.model.specs.Numbers.{digitZero, mostDigits};
 ghost use Rattle.model.specs.Text.{isDigit, number, field, readFields, fieldCount, lineOf, closed, readLine};
-ghost use Rattle.reader.specs.Reading.{fieldsOf};
+ghost use Rattle.reader.specs.Inner.Reading.{fieldsOf};
 
 // A line that is malformed.
 const MALFORMED: Read = Read {
@@ -72,7 +72,7 @@ pub fn read_number(text: &[u8]) -> Number
 }
 
 // The field that a text begins with: a comma and a number.
-pub fn read_field(text: &[u8]) -> Number
+fn read_field(text: &[u8]) -> Number
     ensures { λ r. ⌜ r ≡ field (now (text .entry)) ⌝ }
 {
     if text.len() == 0 {
@@ -86,7 +86,7 @@ pub fn read_field(text: &[u8]) -> Number
 }
 
 // The fields that a text begins with, as many as `numbers` has places: each number goes to its place.
-pub fn read_fields(text: &[u8], numbers: &mut [u64]) -> Span
+fn read_fields(text: &[u8], numbers: &mut [u64]) -> Span
     ensures { λ r. ⌜ fieldsOf r (now (numbers .exit)) ≡ readFields (length (now (numbers .entry))) (now (text .entry)) ⌝ }
 {
     let mut at: usize = 0;

@@ -1,2 +1,2 @@
--- What the crate's inner contracts cite. The public ones cite the model.
-pub mod Verdicts
+-- What only the contracts of inner functions cite. The public promises cite the model alone.
+pub mod Inner

@@ -11,7 +11,7 @@ ghost use lib.ListN.{length};
 ghost use Rattle.causes.specs.Tests.{firstRefusal};
 ghost use Rattle.model.specs.Record.{Bank};
 ghost use Rattle.model.specs.Load.{headerInRange, gateInRange, entryInRange, rank, inOrder, rising, headerTests, lineTests, lastOf};
-ghost use Rattle.verdicts.specs.Verdicts.{gateTests, entryTests};
+ghost use Rattle.verdicts.specs.Inner.Verdicts.{gateTests, entryTests};
 
 // The most words of a machine.
 const MOST_WORDS: u64 = 2048;

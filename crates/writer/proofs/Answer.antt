@@ -8,7 +8,8 @@ use lib.ListN.{length, set, length-set}
 use borrow.Author.Tests.{le-leb, lt-leb}
 use borrow.Rule.Slice.PartMut.{putMid}
 use Rattle.model.specs.Listing.{fields, line}
-use Rattle.writer.specs.Writing.{Wrote, Writing, answer, written, writing}
+use Rattle.writer.specs.Writing.{Writing, answer, written, writing}
+use Rattle.writer.specs.Inner.Wrote.{Wrote}
 use Rattle.texts.proofs.Fields.{line-length, line-most}
 use Rattle.writer.proofs.Over.{rest, wrote-length, wrote-byte, wrote-then, wrote-last}
 

@@ -8,7 +8,8 @@ use native.Mathlib.Omega.{arith}
 use lib.ListN.{length, take, drop, getD, set, length-append, length-drop, drop-of-length-le}
 use lib.Seq.{take-all, take-at, drop-at, drop-drop, drop-cons, set-split, set-at}
 use borrow.Rule.Slice.PartMut.{putMid}
-use Rattle.writer.specs.Writing.{over, Wrote}
+use Rattle.writer.specs.Writing.{over}
+use Rattle.writer.specs.Inner.Wrote.{Wrote}
 
 -- The part of an output from `at` on, as it is lent.
 abbrev pub rest : ℕ → List ℕ → List ℕ

@@ -1,7 +1,6 @@
 -- What the line writer answers.
 -- Assumes nothing.
-use Prim.Native.Nat.{ℕ, _≤_}
-use mathlib.Core.Path.{_≡_}
+use Prim.Native.Nat.{ℕ}
 use mathlib.Core.Bool.{cond}
 use mathlib.Core.List.{List, _++_}
 use lib.Dec.{leb}
@@ -12,13 +11,6 @@ use Rattle.model.specs.Listing.{line}
 -- A text written over the beginning of an output: what stands behind it stays.
 unfoldable pub over : List ℕ → List ℕ → List ℕ
 over text out = text ++ drop (length text) out
-
--- The text was written over the beginning of `before`, where it fits: its length was given, and this is the output
--- afterwards.
-pub record Wrote (text before : List ℕ) (given : ℕ) (after : List ℕ) : Type 0 where
-  pub fits : length text ≤ length before
-  pub count : given ≡ length text
-  pub output : after ≡ over text before
 
 -- The answer of the line writer: how many bytes the line takes, and the output at exit.
 pub record Writing : Type 0 where

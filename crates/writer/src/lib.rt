@@ -9,7 +9,8 @@ ghost use Prim.Native.Nat.{_≤_, _<_};
 ghost use lib.ListN.{length};
 ghost use Rattle.model.specs.Numbers.{comma, mostFields};
 ghost use Rattle.model.specs.Listing.{decimal, fields};
-ghost use Rattle.writer.specs.Writing.{Wrote, answer, writing};
+ghost use Rattle.writer.specs.Writing.{answer, writing};
+ghost use Rattle.writer.specs.Inner.Wrote.{Wrote};
 
 // The most digits of a number of 64 bits.
 const LONGEST: usize = 20;

@@ -1,7 +1,7 @@
 -- A step that attempts no release, between states that break nothing, meets the three provisos: a label is lowered by a
 -- relabelling alone, and a gate call from outside to within is made from a state at large.
 -- Assumes nothing.
-use Prim.Native.Nat.{ℕ, zero, suc, _<_, _≤_}
+use Prim.Native.Nat.{ℕ, zero, suc, _<_}
 use mathlib.Core.Path.{_≡_, refl, sym, ap, _∙_, subst}
 use mathlib.Core.Logic.{⊎-elim}
 use mathlib.Core.Bool.{Bool, true, false, not, _&&_, _||_, cond, and-false}
@@ -10,18 +10,18 @@ use lib.Dec.{ltb, eqb}
 use lib.ListN.{getD}
 use borrow.Author.Tests.{eqb-true, eqb-false, ltb-true, ltb-false}
 use Rattle.labels.specs.Label.{principals, flows}
-use Rattle.labels.proofs.Laws.{flows-trans, not-flows, raise-rises, relabel-flows-new, relabel-reflected}
+use Rattle.labels.proofs.Laws.{flows-trans, raise-rises, relabel-flows-new, relabel-reflected}
 use Rattle.model.specs.declared.Fixed.{Fixed}
 use Rattle.model.specs.declared.Control.{Control}
 use Rattle.model.specs.declared.Call.{Call}
 use Rattle.model.specs.declared.Call.the-variants.{Empty, Gate, Upcall}
 use Rattle.model.specs.Record.{State, Location, register, word, labelAt, isEmpty, isUpcall, newest, inUpcall}
 use Rattle.model.specs.Word.{Rule, raise, relabel, Op, immediate, arithmetic, load, store, branch, jump, readClock, setLabel, setPair, upcall, endUpcall, gateCall, gateReturn, halt, aField}
-use Rattle.model.specs.Ops.{Write, nothing, value, label, Change, write, goto, enter, openUpcall, openGate, closeGate, stop, Effect, does, ends, Row, isLabel, allows, noGate, La, Lb, Rb, table}
-use Rattle.model.specs.Step.{Fetched, failed, fetched, fetch, Decision, rest, spend, stall, close, carry, fault, passed, attempt, inTime, plan, beyondLimit, inLimit, running, decide, isCarried, causeAllowed, causeWrite, changeWrite, writeOf, written, controlAfter, changed, step}
+use Rattle.model.specs.Ops.{Write, nothing, value, label, Change, write, goto, Effect, does, ends, Row, isLabel, allows, noGate, La, Lb, Rb, table}
+use Rattle.model.specs.Step.{Fetched, failed, fetched, fetch, Decision, rest, spend, stall, close, carry, fault, passed, attempt, plan, beyondLimit, inLimit, running, decide, isCarried, causeAllowed, causeWrite, changeWrite, writeOf, written, controlAfter, changed, step}
 use Rattle.model.specs.Seen.{within, exists}
 use Rattle.model.specs.Noninterference.{downgrades, callsGate, gateCallsIn, timedFromOutside, StepProvisos}
-use Rattle.model.specs.Certificate.{isRelabelling, triesRelease, releases, attempts, leadsWithin, atLarge, breaks}
+use Rattle.model.specs.Certificate.{triesRelease, releases, attempts, leadsWithin, atLarge, breaks}
 use Rattle.model.proofs.Truth.{either, clash, and-three, or-iff}
 use Rattle.model.proofs.Writes.{same, label-after-label, label-after-value}
 use Rattle.model.proofs.Ready.{_⊑_, Ready}

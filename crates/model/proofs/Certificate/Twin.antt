@@ -3,26 +3,24 @@
 -- come back alike; outside for good with no gate that leads within, nothing breaks any more.
 -- Assumes nothing.
 use Prim.Native.Nat.{ℕ, zero, suc, _+_, _-_, _<_, _≤_}
-use mathlib.Core.Path.{_≡_, refl, sym, ap, ap₂, _∙_, subst, subst₂}
-use mathlib.Core.Logic.{_⊎_, inl, inr, ⊎-elim}
-use mathlib.Core.Bool.{Bool, true, false, not, _&&_, _||_, cond, and-false, or-false}
-use native.Mathlib.Nat.{le-refl, le-trans}
+use mathlib.Core.Path.{_≡_, refl, sym, ap, ap₂, _∙_, subst}
+use mathlib.Core.Logic.{_⊎_, ⊎-elim}
+use mathlib.Core.Bool.{Bool, true, false, not, _&&_, _||_, and-false, or-false}
+use native.Mathlib.Nat.{le-refl}
 use native.Mathlib.Omega.{arith}
 use lib.Dec.{eqb}
-use lib.ListN.{getD}
 use Rattle.labels.specs.Label.{principals, flows}
 use Rattle.labels.proofs.Laws.{flows-refl}
 use Rattle.model.specs.declared.Pair.{Pair}
 use Rattle.model.specs.declared.CallGate.{CallGate}
 use Rattle.model.specs.declared.Fixed.{Fixed}
 use Rattle.model.specs.declared.Control.{Control}
-use Rattle.model.specs.declared.Call.{Call}
-use Rattle.model.specs.Record.{State, Location, register, machineOf, valueAt, labelAt, pairOf, newest, inUpcall}
-use Rattle.model.specs.Word.{Op, aField, bField}
-use Rattle.model.specs.Ops.{Change, write, goto, enter, openUpcall, openGate, closeGate, stop, noGate, isLabel, La, Lb, Rb}
-use Rattle.model.specs.Step.{Fetched, failed, fetched, fetch, Decision, rest, spend, stall, close, carry, endTick, running, decide, isCarried, withControl, changed, controlAfter, restored, step}
+use Rattle.model.specs.Record.{State, register, machineOf, pairOf, newest, inUpcall}
+use Rattle.model.specs.Word.{aField, bField}
+use Rattle.model.specs.Ops.{Change, write, goto, enter, openUpcall, openGate, closeGate, stop, La}
+use Rattle.model.specs.Step.{Fetched, failed, fetched, fetch, Decision, rest, spend, stall, close, carry, endTick, running, decide, isCarried, withControl, changed, controlAfter, step}
 use Rattle.model.specs.Seen.{within, seenControl}
-use Rattle.model.specs.Noninterference.{callsGate, timedFromOutside, StepProvisos, SameSetting}
+use Rattle.model.specs.Noninterference.{timedFromOutside, SameSetting}
 use Rattle.model.specs.Certificate.{isRelabelling, triesRelease, releases, attempts, leadsWithin, atLarge, Certificate, releaseFrom, breaks, breakAt}
 use Rattle.model.proofs.Truth.{either, clash, and-iff, not-iff, same-outcome}
 use Rattle.model.proofs.Ready.{_⊑_, Fit, Ready}
@@ -31,7 +29,7 @@ use Rattle.model.proofs.WellFormed.{top-upcall, step-fixed, step-contro
 use Rattle.model.proofs.Step.{step-ready, step-ended, step-passes, end-tick-late}
 use Rattle.model.proofs.Noninterference.Sight.{Alike, alike-sym, alike-trans, flows-equal, flows-alike}
 use Rattle.model.proofs.Noninterference.Hidden.{hidden-step, Lost, lost-decision, restored-closed, opened-upcall, opened-gate, Away, back, Still, Onward, still, returned, away-step}
-use Rattle.model.proofs.Noninterference.Visible.{setting-sym, Together, bare, Similar, fetch-same, decide-similar, a-exists, b-exists, visible-control, visible-alike}
+use Rattle.model.proofs.Noninterference.Visible.{setting-sym, Together, bare, fetch-same, decide-similar, a-exists, b-exists, visible-control, visible-alike}
 use Rattle.model.proofs.Noninterference.Paths.{Both, timing-within, Abroad, away, abroad, seen-control, setting-on, end-tick-same}
 use Rattle.model.proofs.Certificate.Release.{large, unbroken, step-provisos, within-on}
 use Rattle.model.proofs.Certificate.Watch.{Breaks, attempted, broken, later, ended-quiet}

@@ -1,16 +1,14 @@
 -- The first break of a run, as a fact about its steps: it is what `certify` gives, and up to which tick a state is
 -- certified goes by it.
 -- Assumes nothing.
-use Prim.Native.Nat.{ℕ, zero, suc, _+_, _-_, _<_, _≤_}
-use mathlib.Core.Path.{_≡_, refl, sym, ap, _∙_, subst}
+use Prim.Native.Nat.{ℕ, zero, suc, _-_, _<_, _≤_}
+use mathlib.Core.Path.{_≡_, refl, ap, _∙_, subst}
 use mathlib.Core.Logic.{_⊎_, inl, inr, ⊎-elim}
-use mathlib.Core.Bool.{Bool, true, false, _&&_, _||_, cond}
-use native.Mathlib.Nat.{le-trans}
+use mathlib.Core.Bool.{Bool, true, false}
 use native.Mathlib.Omega.{arith}
 use lib.Dec.{eqb}
 use Rattle.model.specs.Record.{State}
 use Rattle.model.specs.Step.{running, decide, step, steps}
-use Rattle.model.specs.Noninterference.{timedFromOutside}
 use Rattle.model.specs.Certificate.{attempts, atLarge, Certified, Certificate, whole, releaseFrom, breaks, breakAt, watch, certify}
 use Rattle.model.proofs.Truth.{choice, either, clash}
 use Rattle.model.proofs.WellFormed.{step-fixed}

@@ -12,10 +12,9 @@ use lib.Dec.{leb, ltb}
 use lib.ListN.{length, take, drop, length-take, drop-of-length-le}
 use lib.Seq.{sets, set-getD, drop-cons}
 use borrow.Author.Tests.{leb-true, leb-false, ltb-true, ltb-false, le-ltb, lt-leb, le-leb}
-use Rattle.model.specs.declared.Fixed.{Fixed}
 use Rattle.model.specs.declared.Request.{Request}
 use Rattle.model.specs.declared.Request.the-variants.{Step, Run}
-use Rattle.model.specs.Record.{Bank, State, machineOf}
+use Rattle.model.specs.Record.{Bank, State, machineOf, lent}
 use Rattle.model.specs.WellFormed.{lentWhole}
 use Rattle.model.specs.Step.{running, step, steps, run}
 use Rattle.causes.specs.declared.Cause.the-variants.{ShortMemory}
@@ -99,11 +98,11 @@ regain-lent size (part from count) xs = part-left (min count (size - 1)) from xs
 -- The memory that a call is lent.
 abbrev lentOf : Invocation → State → Bank
 lentOf q s =
-    record { values = lend (s .fixed .size) (q .words) (s .memory .values); labels = lend (s .fixed .size) (q .labels) (s .memory .labels) }
+    lent (lend (s .fixed .size) (q .words) (s .memory .values)) (lend (s .fixed .size) (q .labels) (s .memory .labels))
 
 -- The answer of a call that is lent too little: refusal 6.
 answer-short : (q : Invocation) (s : State) → Ready s
-    → lentWhole (s .fixed) (lentOf q s .values) (lentOf q s .labels) ≡ false
+    → lentWhole (s .fixed .size) (lentOf q s) ≡ false
     → answered q s ≡ refused ShortMemory (machineOf s) (lentOf q s)
 unfolding answered answer
 answer-short q s r e = rw (fits (machineOf s) (r .fit), e)
@@ -116,7 +115,7 @@ answer-whole k s r = rw (fits (machineOf s) (r .fit), le-leb _ _ (r .words), le-
 
 -- A call that is lent too little changes nothing.
 short-row : (q : Invocation) (s : State) → Ready s
-    → lentWhole (s .fixed) (lentOf q s .values) (lentOf q s .labels) ≡ false → Row s (callStates q s) (after q s)
+    → lentWhole (s .fixed .size) (lentOf q s) ≡ false → Row s (callStates q s) (after q s)
 unfolding callStates after steps
 short-row q s r e =
     let h = answer-short q s r e in
@@ -137,24 +136,24 @@ whole-row k s r =
     record { count = w .count; states = rw h (w .states); last = rw h (w .last) }
 
 -- Lent a part of the words or of the labels is lent too little.
-short-words : (f : Fixed) (xs ys : List ℕ) → length xs < f .size → lentWhole f xs ys ≡ false
+short-words : (size : ℕ) (m : Bank) → length (m .values) < size → lentWhole size m ≡ false
 unfolding lentWhole
-short-words f xs ys h = rw (lt-leb (f .size) (length xs) h)
+short-words size m h = rw (lt-leb size (length (m .values)) h)
 
-short-labels : (f : Fixed) (xs ys : List ℕ) → length ys < f .size → lentWhole f xs ys ≡ false
+short-labels : (size : ℕ) (m : Bank) → length (m .labels) < size → lentWhole size m ≡ false
 unfolding lentWhole
-short-labels f xs ys h = rw (lt-leb (f .size) (length ys) h, and-false)
+short-labels size m h = rw (lt-leb size (length (m .labels)) h, and-false)
 
 -- Every call's states are so many steps in a row, the last of which is what its answer gives back.
 pub call-row : (k : Request) (w l : Lent) (s : State) → Ready s
     → Row s (callStates (record { request = k; words = w; labels = l }) s) (after (record { request = k; words = w; labels = l }) s)
 call-row k whole whole s r = whole-row k s r
 call-row k whole (part from count) s r =
-    short-row _ s r (short-labels _ _ _ (part-short _ from count (s .memory .labels) (r .fit .fixed .sizeLow)))
+    short-row _ s r (short-labels _ _ (part-short _ from count (s .memory .labels) (r .fit .fixed .sizeLow)))
 call-row k (part from count) whole s r =
-    short-row _ s r (short-words _ _ _ (part-short _ from count (s .memory .values) (r .fit .fixed .sizeLow)))
+    short-row _ s r (short-words _ _ (part-short _ from count (s .memory .values) (r .fit .fixed .sizeLow)))
 call-row k (part from count) (part from′ count′) s r =
-    short-row _ s r (short-words _ _ _ (part-short _ from count (s .memory .values) (r .fit .fixed .sizeLow)))
+    short-row _ s r (short-words _ _ (part-short _ from count (s .memory .values) (r .fit .fixed .sizeLow)))
 
 -- ---- a sequence of calls
 

@@ -4,7 +4,7 @@ use borrow.Author.Needs.{needs}
 use borrow.Author.Tests.{not-true, not-false}
 use Rattle.model.specs.Record.{Machine, Bank}
 use Rattle.machine.specs.Answered.{recordOf}
-use Rattle.printer.specs.Printing.{lent}
+use Rattle.model.specs.Record.{lent}
 use Rattle.printer.proofs.Answers.{ill-formed, short-memory, lent-whole, whole}
 use Rattle.printer.proofs.print.Statement.{statement}
 use Rattle.printer.proofs.print.Tie as tie

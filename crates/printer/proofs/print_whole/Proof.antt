@@ -4,7 +4,7 @@ use native.Mathlib.Omega.{arith}
 use borrow.Author.Needs.{needs}
 use Rattle.model.specs.Record.{Machine, Bank}
 use Rattle.machine.specs.Answered.{recordOf}
-use Rattle.printer.specs.Printing.{lent}
+use Rattle.model.specs.Record.{lent}
 use Rattle.printer.proofs.Answers.{short-output, listed}
 use Rattle.printer.proofs.print_whole.Statement.{statement}
 use Rattle.printer.proofs.print_whole.Tie as tie

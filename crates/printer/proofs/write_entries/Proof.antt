@@ -6,7 +6,8 @@ use native.Mathlib.Omega.{arith}
 use lib.ListN.{length}
 use borrow.Author.Needs.{needs}
 use Rattle.model.specs.Listing.{entryLines}
-use Rattle.printer.specs.Printing.{lent, Placed}
+use Rattle.printer.specs.Inner.Placing.{Placed}
+use Rattle.model.specs.Record.{lent}
 use Rattle.texts.proofs.Listing.{entries-more, entries-most}
 use Rattle.printer.proofs.Places.{placed-none, placed-then}
 use Rattle.printer.proofs.write_entries.Statement.{statement}

@@ -6,7 +6,7 @@ use borrow.Author.Needs.{needs}
 use Rattle.model.specs.Numbers.{letterE}
 use Rattle.model.specs.Listing.{line, endFields, headLines}
 use Rattle.texts.proofs.Fields.{line-most}
-use Rattle.printer.specs.Printing.{Placed}
+use Rattle.printer.specs.Inner.Placing.{Placed}
 use Rattle.texts.proofs.Listing.{call-most}
 use Rattle.printer.proofs.Places.{placed-then}
 use Rattle.printer.proofs.write_head.Statement.{statement}

@@ -9,7 +9,8 @@ use Rattle.model.specs.Numbers.{letterR, letterW}
 use Rattle.model.specs.Record.{stateOf, State}
 use Rattle.model.specs.Listing.{entryLines, listing}
 use Rattle.machine.specs.Answered.{recordOf}
-use Rattle.printer.specs.Printing.{lent, Entries}
+use Rattle.printer.specs.Inner.Placing.{Entries}
+use Rattle.model.specs.Record.{lent}
 use Rattle.texts.proofs.Listing.{head-most, entries-most}
 use Rattle.printer.proofs.Places.{placed-then}
 use Rattle.printer.proofs.write_listing.Statement.{statement}

@@ -7,7 +7,7 @@ use lib.ListN.{drop, getD, length-drop}
 use lib.Seq.{length-take-le}
 use borrow.Author.Needs.{needs}
 use Rattle.model.specs.Text.{readFields, fieldCount, readLine}
-use Rattle.reader.specs.Reading.{fieldsOf}
+use Rattle.reader.specs.Inner.Reading.{fieldsOf}
 use Rattle.texts.proofs.Text.{count-most, fields-within, line-in-front, no-line}
 use Rattle.reader.proofs.Loops.{fields-behind}
 use Rattle.reader.proofs.read_line.Statement.{statement}

@@ -6,7 +6,7 @@ use lib.Seq.{take-all}
 use lib.ListN.{length, take}
 use borrow.Author.Needs.{needs}
 use Rattle.model.specs.Listing.{fields}
-use Rattle.writer.specs.Writing.{Wrote}
+use Rattle.writer.specs.Inner.Wrote.{Wrote}
 use Rattle.writer.proofs.Over.{wrote-none, wrote-room, wrote-then, wrote-length}
 use Rattle.texts.proofs.Fields.{field-room, fields-more}
 use Rattle.writer.proofs.put_fields.Statement.{statement}
