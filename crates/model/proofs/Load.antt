@@ -29,12 +29,11 @@ use Rattle.model.specs.declared.judging.Header.{Header}
 use Rattle.model.specs.Record.{Bank, Machine, State, machineOf, stateOf}
 use Rattle.model.specs.WellFormed.{isValid, endInRange, wellFormed, lentWhole}
 use Rattle.model.specs.Numbers.{valueCount}
-use Rattle.model.specs.Typed.{Below, BankTyped, RegistersTyped}
+use Rattle.model.specs.Inner.Typed.{Typed, Below, BankTyped, RegistersTyped}
 use Rattle.model.specs.Ops.{isLabel}
 use Rattle.model.specs.Step.{running, setValue}
 use Rattle.model.specs.Text.{lines}
 use Rattle.model.specs.Load.{machineOfHeader, withGate, withRegister, withEntry, withLine, headerInRange, gateInRange, entryInRange, headerTests, lineTests, behindHeader, lastOf, Verdict, refuse, accept, tried, judge, judgeHeader, judgeLines, judgeText, cleared, withWord, fill, settle, load}
-use Rattle.model.specs.Noninterference.{Loaded}
 use Rattle.model.specs.Program.{stateOfLoad}
 use Rattle.model.proofs.Truth.{choice, and-iff, clash}
 use Rattle.model.proofs.Ready.{FixedFit, none, fit, fits, Ready}
@@ -232,6 +231,16 @@ header-in-order h m e v =
     }
 
 -- ---- the load
+
+-- A state as an accepted load leaves it: well-formed and running at clock 0 with no open call, its memory whole.
+pub record Loaded (s : State) : Type 0 where
+  pub wellFormed : wellFormed (machineOf s) ≡ true
+  pub running : running s ≡ true
+  pub clock : s .control .clock ≡ 0
+  pub first : s .control .first ≡ Empty
+  pub second : s .control .second ≡ Empty
+  pub lent : lentWhole (s .fixed .size) (s .memory) ≡ true
+  pub typed : Typed s
 
 -- A record and memory in order are a loaded state.
 in-order-loaded : (r : Machine) (m : Bank) → InOrder r m → Loaded (stateOf r m)

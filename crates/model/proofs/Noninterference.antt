@@ -16,8 +16,9 @@ use mathlib.Core.Bool.{true}
 use Rattle.model.specs.Record.{State, newest, inUpcall}
 use Rattle.model.specs.Load.{load}
 use Rattle.model.specs.Program.{stateOfLoad}
-use Rattle.model.specs.Noninterference.{Invocation, trace, atTick, reached, Provisos, Loaded, FromLoadedStates, Noninterference}
-use Rattle.model.proofs.Load.{loaded-ready, load-loaded}
+use Rattle.model.specs.Noninterference.{Invocation, trace, atTick, reached, Provisos, SameSetting, Noninterference}
+use Rattle.model.specs.Seen.{LowEquivalent}
+use Rattle.model.proofs.Load.{Loaded, loaded-ready, load-loaded}
 use Rattle.model.proofs.Noninterference.Paths.{at-one-tick}
 use Rattle.model.proofs.Noninterference.Trace.{Arrived, arrive, trace-row}
 
@@ -36,7 +37,9 @@ arrived ℓ k s l qs p h =
     rw e (arrive ℓ k (t .count) s r (rw (l .clock) (omega arith)) (rw e at h) (rw e at (p .steps)))
 
 -- From two loaded states: the two are alike at or below ℓ at every tick that both have reached.
-pub from-loaded-states : FromLoadedStates
+pub from-loaded-states : (ℓ k : ℕ) (s t : State) → Loaded s → Loaded t → SameSetting s t → LowEquivalent ℓ s t
+    → (qs rs : List Invocation) → Provisos ℓ k s (trace qs s) → Provisos ℓ k t (trace rs t) → reached k s (trace qs s) ≡ true
+    → reached k t (trace rs t) ≡ true → LowEquivalent ℓ (atTick k s (trace qs s)) (atTick k t (trace rs t))
 from-loaded-states ℓ k s t l m same low qs rs p q h g =
     let a = arrived ℓ k s l qs p h in
     let b = arrived ℓ k t m rs q g in

@@ -20,7 +20,7 @@ use Rattle.model.specs.declared.Call.the-variants.{Empty, Gate, Upcall}
 use Rattle.model.specs.Record.{Machine, State, machineOf}
 use Rattle.model.specs.WellFormed.{isValid, fixedInRange, endInRange, upcallWellFormed, callsWellFormed, wellFormed}
 use Rattle.model.specs.Numbers.{valueCount}
-use Rattle.model.specs.Typed.{Below, Typed}
+use Rattle.model.specs.Inner.Typed.{Below, Typed}
 use Rattle.model.proofs.Truth.{either, and-iff, clash}
 
 -- The one label flows to the other.

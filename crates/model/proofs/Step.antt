@@ -17,7 +17,7 @@ use Rattle.model.specs.declared.Fixed.{Fixed}
 use Rattle.model.specs.declared.Control.{Control}
 use Rattle.model.specs.Record.{Bank, State, Location, register, word, labelAt, machineOf, newest, inUpcall}
 use Rattle.model.specs.Numbers.{registerCount, valueCount}
-use Rattle.model.specs.Typed.{Below, BankTyped}
+use Rattle.model.specs.Inner.Typed.{Below, BankTyped}
 use Rattle.model.specs.Ops.{Write, value, label, Change, write, goto, enter, openUpcall, openGate, closeGate, stop}
 use Rattle.model.specs.Step.{Decision, rest, spend, stall, close, carry, endTick, finish, fetch, plan, beyondLimit, inLimit, running, decide, setValue, setLabelAt, written, causeAllowed, causeWrite, changeWrite, writeOf, changed, restored, controlAfter, apply, step}
 use Rattle.model.proofs.Truth.{choice, clash}

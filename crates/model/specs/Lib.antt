@@ -13,8 +13,8 @@ pub mod Load
 pub mod Listing
 pub mod Program
 -- ======== Here the definition of the machine ends. Everything else, here and in proofs/, is derived from it.
-pub mod Typed
 pub mod Facts
 pub mod Seen
 pub mod Noninterference
 pub mod Certificate
+pub mod Inner

@@ -10,12 +10,9 @@ use lib.ListN.{take, drop, getD}
 use lib.Seq.{sets}
 use Rattle.causes.specs.declared.Outcome.the-variants.{Done}
 use Rattle.causes.specs.Causes.{isDone}
-use Rattle.model.specs.declared.Call.the-variants.{Empty}
 use Rattle.model.specs.declared.Request.{Request}
 use Rattle.model.specs.declared.Request.the-variants.{Step, Run}
 use Rattle.model.specs.Record.{Bank, State, Location, machineOf, stateOf, lent, labelAt}
-use Rattle.model.specs.WellFormed.{wellFormed, lentWhole}
-use Rattle.model.specs.Typed.{Typed}
 use Rattle.model.specs.Ops.{Change, write, goto, enter, openUpcall, openGate, closeGate, stop, noGate}
 use Rattle.model.specs.Step.{Decision, rest, spend, stall, close, carry, running, decide, step}
 use Rattle.model.specs.Answer.{Answer, answerOf}
@@ -153,16 +150,6 @@ pub record Provisos (ℓ k : ℕ) (s : State) (xs : List State) : Type 0 where
 
 -- ---- the theorem
 
--- A state as an accepted load leaves it: well-formed and running at clock 0 with no open call, its memory whole.
-pub record Loaded (s : State) : Type 0 where
-  pub wellFormed : wellFormed (machineOf s) ≡ true
-  pub running : running s ≡ true
-  pub clock : s .control .clock ≡ 0
-  pub first : s .control .first ≡ Empty
-  pub second : s .control .second ≡ Empty
-  pub lent : lentWhole (s .fixed .size) (s .memory) ≡ true
-  pub typed : Typed s
-
 -- Equal size, gates (their number and each of them), error pc and limit.
 pub record SameSetting (s t : State) : Type 0 where
   pub size : s .fixed .size ≡ t .fixed .size
@@ -170,15 +157,6 @@ pub record SameSetting (s t : State) : Type 0 where
   pub errorpc : s .fixed .errorpc ≡ t .fixed .errorpc
   pub count : s .fixed .count ≡ t .fixed .count
   pub gates : (k : ℕ) → k < s .fixed .count → getD (s .fixed .gates) k noGate ≡ getD (t .fixed .gates) k noGate
-
--- From two such states: for any label ℓ and any tick k, and two loaded states with equal setting that are alike at or
--- below ℓ, whatever sequence of calls each then gets, if both meet the provisos up to k and both have reached k, the two
--- are alike at or below ℓ at k.
-abbrev pub FromLoadedStates : Type 0
-FromLoadedStates =
-    (ℓ k : ℕ) (s t : State) → Loaded s → Loaded t → SameSetting s t → LowEquivalent ℓ s t → (qs rs : List Invocation)
-    → Provisos ℓ k s (trace qs s) → Provisos ℓ k t (trace rs t) → reached k s (trace qs s) ≡ true
-    → reached k t (trace rs t) ≡ true → LowEquivalent ℓ (atTick k s (trace qs s)) (atTick k t (trace rs t))
 
 -- The load is accepted.
 abbrev pub Accepted : Loading → Type 0

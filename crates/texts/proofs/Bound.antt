@@ -15,7 +15,7 @@ use Rattle.model.specs.declared.Call.{Call}
 use Rattle.model.specs.Record.{Bank, State, machineOf}
 use Rattle.model.specs.Numbers.{valueCount}
 use Rattle.model.specs.WellFormed.{endInRange}
-use Rattle.model.specs.Typed.{BankTyped, PairTyped, CallTyped, ControlTyped, Typed}
+use Rattle.model.specs.Inner.Typed.{BankTyped, PairTyped, CallTyped, ControlTyped, Typed}
 use Rattle.model.specs.Listing.{decimal, line, endFields, callLine, isListed, entryLine, entryLines, listing}
 use Rattle.model.proofs.Truth.{and-iff, choice}
 use Rattle.model.proofs.Ready.{Fit, CallsFit, none, gate, upcall, both}
