@@ -18,7 +18,7 @@ use Rattle.model.specs.Program.{stateOfLoad, memoryAfter, programMemory, Replie
 use Rattle.model.specs.Certificate.{whole, Certifying, certifying, verdictLine, certifyAlone}
 use Rattle.model.proofs.Ready.{Ready}
 use Rattle.model.proofs.Program.{load-ready}
-use Rattle.engine.specs.Drive.{Fit}
+use Rattle.engine.specs.Inner.Drive.{InRanges}
 use Rattle.writer.specs.Writing.{Writing, answer, over, writing, written}
 use Rattle.texts.proofs.Fields.{line-most}
 use Rattle.certify.specs.declared.Certificate.{Certificate}
@@ -28,7 +28,7 @@ use Rattle.certify.specs.Inner.Watch.{Watched}
 -- ---- a text certified
 
 -- A ready state has the ranges that the steps rest on.
-ready-fit : {s : State} → Ready s → Fit (s .fixed) (s .control) (s .memory .values) (s .memory .labels)
+ready-fit : {s : State} → Ready s → InRanges (s .fixed) (s .control) (s .memory .values) (s .memory .labels)
 ready-fit r =
     record {
       size = r .fit .fixed .sizeHigh;
@@ -40,9 +40,9 @@ ready-fit r =
     }
 
 module _ (text : List ℕ) (m : Bank) (a : Loading) (e : a ≡ load text m) where
-  pub loaded-fit : a .outcome ≡ Done → Fit (a .machine .fixed) (a .machine .control) (a .memory .values) (a .memory .labels)
+  pub loaded-fit : a .outcome ≡ Done → InRanges (a .machine .fixed) (a .machine .control) (a .memory .values) (a .memory .labels)
   loaded-fit y =
-      subst (λ (b : Loading). Fit (b .machine .fixed) (b .machine .control) (b .memory .values) (b .memory .labels)) (sym e)
+      subst (λ (b : Loading). InRanges (b .machine .fixed) (b .machine .control) (b .memory .values) (b .memory .labels)) (sym e)
       (ready-fit (load-ready text m (ap (λ (b : Loading). b .outcome) (sym e) ∙ y)))
 
   -- A refused one.

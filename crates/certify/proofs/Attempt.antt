@@ -16,7 +16,8 @@ use Rattle.model.specs.Step.{fetched, fetch, carry, isCarried, endTick, attempt
 use Rattle.model.specs.Certificate.{triesRelease, attempts}
 use Rattle.model.proofs.Truth.{either, and-three}
 use Rattle.engine.specs.Skim.{fetchesRelabelling}
-use Rattle.engine.specs.Common.{deadlineOf, lateOf, Timed}
+use Rattle.engine.specs.Calls.{deadlineOf}
+use Rattle.engine.specs.Inner.Common.{lateOf, Timed}
 use Rattle.engine.proofs.Turns.{decides, in-time, in-limit, past, attempt-write}
 use Rattle.engine.proofs.Skimming.{relabels-number, not-done, late-not-done}
 use Rattle.certify.specs.declared.release.Found.{Found}

@@ -19,7 +19,8 @@ use Rattle.model.proofs.Truth.{choice, either, and-iff}
 use Rattle.model.proofs.Run.{steps-ended}
 use Rattle.engine.specs.declared.steps.drive.Halted.{Halted}
 use Rattle.engine.specs.Skim.{Skim, stride}
-use Rattle.engine.specs.Drive.{stateFrom, strodeFrom, strode, advanced, Fit}
+use Rattle.engine.specs.Advance.{stateFrom, strodeFrom, strode, advanced}
+use Rattle.engine.specs.Inner.Drive.{InRanges}
 use Rattle.engine.proofs.Driving.{advanced-there, strode-there}
 use Rattle.certify.specs.declared.Certificate.{Certificate}
 use Rattle.certify.specs.Certified.{certificateOf}
@@ -35,12 +36,12 @@ pub record Watching (ℓ : ℕ) (s : State) (fixed : Fixed) (control : Control) 
       found .cause ≡ 0
       → (breaks ℓ (stateFrom fixed control values labels words marks) ≡ false) × (certificateOf found ≡ whole)
   pub run : run s ≡ steps left (stateFrom fixed control values labels words marks)
-  pub fit : Fit fixed control words marks
+  pub fit : InRanges fixed control words marks
   pub long : length words ≡ length (s .memory .values)
 
 -- The loaded state.
 pub watching-start : {ℓ : ℕ} {fixed : Fixed} {control : Control} {values labels words marks : List ℕ} {found : Certificate} {left : ℕ} {opened : Bool}
-    → Fit fixed control words marks → opened ≡ leadsWithin ℓ fixed (fixed .count) → certificateOf found ≡ breakWith ℓ opened control
+    → InRanges fixed control words marks → opened ≡ leadsWithin ℓ fixed (fixed .count) → certificateOf found ≡ breakWith ℓ opened control
     → left ≡ fixed .limit - control .clock + 1
     → Watching ℓ (stateFrom fixed control values labels words marks) fixed control values labels words marks found left
 unfolding run

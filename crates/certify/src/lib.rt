@@ -19,7 +19,7 @@ ghost use lib.Dec.{eqb};
 ghost use lib.ListN.{length, take};
 ghost use Rattle.model.specs.Record.{stateOf};
 ghost use Rattle.model.specs.Certificate.{certifying, certifyAlone};
-ghost use Rattle.engine.specs.Drive.{Fit};
+ghost use Rattle.engine.specs.Inner.Drive.{InRanges};
 ghost use Rattle.machine.specs.Answered.{recordOf, lent};
 ghost use Rattle.certify.specs.Certified.{certificateOf, certifyingOf};
 ghost use Rattle.certify.specs.Inner.Watch.{firstWith, Watched};
@@ -86,7 +86,7 @@ fn steps_left(end: u8, left: u32) -> u32
 
 // The first break of the run from a loaded machine on. The run goes on to its end behind it.
 fn watch(label: u8, machine: Machine, words: &mut [u32], marks: &[u8]) -> Certificate
-    requires { ⌜ Fit (machine .fixed) (machine .control) (now words) (now marks) ⌝ }
+    requires { ⌜ InRanges (machine .fixed) (machine .control) (now words) (now marks) ⌝ }
     ensures { λ r. ⌜ Watched label (stateOf (recordOf machine) (lent (now (words .entry)) (now (marks .entry)))) r (now (words .exit)) (now (marks .entry)) ⌝ }
 {
     let fixed = machine.fixed;

@@ -2,7 +2,7 @@
 -- begins with that record's words, the record being one of the code. So exactly the buffers that begin with the words of
 -- a record hold one.
 -- Assumes nothing.
-use Prim.Native.Nat.{ℕ, _+_, _^_, _<_}
+use Prim.Native.Nat.{ℕ, _+_, _<_}
 use native.Mathlib.Nat.{mod-eq-of-lt, mod-lt}
 use native.Mathlib.Omega.{arith}
 use mathlib.Core.Path.{_≡_, refl, ap, subst, _∙_}
@@ -16,12 +16,13 @@ use Rattle.model.specs.declared.Call.{Call}
 use Rattle.model.specs.declared.Call.the-variants.{Empty, Gate, Upcall}
 use Rattle.model.specs.declared.Fixed.{Fixed}
 use Rattle.model.specs.declared.Control.{Control}
+use Rattle.model.specs.Numbers.{mostGates, registerCount, valueCount}
 use Rattle.model.specs.Record.{Bank, Machine, returnOf, pairOf, endTickOf}
 use Rattle.model.specs.Ops.{noGate}
 use Rattle.encoder.specs.Places as at
 use Rattle.encoder.specs.Layout.{kindOf, gatesWords, wordsOf, holding}
 use Rattle.encoder.proofs.Laws.{length-words}
-use Rattle.decoder.specs.Held.{wordAt, low32, low8, pairFrom, callFrom, callIn, gateIn, tabulate, fixedIn, controlIn, registersIn, recordIn, begins, holds, nothing, machineIn}
+use Rattle.decoder.specs.Held.{wordAt, low32, byteCount, low8, pairFrom, callFrom, callIn, gateIn, tabulate, fixedIn, controlIn, registersIn, recordIn, begins, holds, nothing, machineIn}
 use Rattle.decoder.specs.Typed.{PairTyped, GateTyped, CallTyped, FixedTyped, ControlTyped, BankTyped, Typed}
 use Rattle.decoder.proofs.Lists.{elements, tabulate-same, length-tabulate, getD-tabulate, begins-itself, begun}
 
@@ -40,7 +41,7 @@ cutFixed f =
       limit = low32 (f .limit);
       errorpc = low32 (f .errorpc);
       count = low32 (f .count);
-      gates = tabulate (λ (k : ℕ). cutGate (getD (f .gates) k noGate)) 8;
+      gates = tabulate (λ (k : ℕ). cutGate (getD (f .gates) k noGate)) mostGates;
     }
 
 abbrev cutControl : Control → Control
@@ -58,8 +59,8 @@ cutControl c =
 abbrev cutBank : Bank → Bank
 cutBank b =
     record {
-      values = tabulate (λ (k : ℕ). low32 (getD (b .values) k 0)) 16;
-      labels = tabulate (λ (k : ℕ). low8 (getD (b .labels) k 0)) 16;
+      values = tabulate (λ (k : ℕ). low32 (getD (b .values) k 0)) registerCount;
+      labels = tabulate (λ (k : ℕ). low8 (getD (b .labels) k 0)) registerCount;
     }
 
 abbrev cut : Machine → Machine
@@ -81,8 +82,8 @@ parted r gs vs ls =
 -- Where every list is written out, reading computes.
 written-out :
     (r : Machine) (g : ℕ → CallGate) (v l : ℕ → ℕ) (rest : List ℕ)
-    → recordIn (wordsOf (parted r (tabulate g 8) (tabulate v 16) (tabulate l 16)) ++ rest)
-    ≡ cut (parted r (tabulate g 8) (tabulate v 16) (tabulate l 16))
+    → recordIn (wordsOf (parted r (tabulate g mostGates) (tabulate v registerCount) (tabulate l registerCount)) ++ rest)
+    ≡ cut (parted r (tabulate g mostGates) (tabulate v registerCount) (tabulate l registerCount))
 unfolding recordIn wordsOf gatesWords fixedIn controlIn registersIn callIn gateIn callFrom tabulate
 written-out r g v l rest = refl
 
@@ -91,11 +92,11 @@ abbrev IsCut : Machine → List ℕ → List CallGate → List ℕ → List ℕ 
 IsCut r rest gs vs ls = recordIn (wordsOf (parted r gs vs ls) ++ rest) ≡ cut (parted r gs vs ls)
 
 read-cut :
-    (r : Machine) (rest : List ℕ) → length (r .fixed .gates) ≡ 8 → length (r .registers .values) ≡ 16
-    → length (r .registers .labels) ≡ 16 → recordIn (wordsOf r ++ rest) ≡ cut r
+    (r : Machine) (rest : List ℕ) → length (r .fixed .gates) ≡ mostGates → length (r .registers .values) ≡ registerCount
+    → length (r .registers .labels) ≡ registerCount → recordIn (wordsOf r ++ rest) ≡ cut r
 read-cut r rest g v l =
-    let gs₀ : List CallGate = tabulate (λ (k : ℕ). getD (r .fixed .gates) k noGate) 8 in
-    let vs₀ : List ℕ = tabulate (λ (k : ℕ). getD (r .registers .values) k 0) 16 in
+    let gs₀ : List CallGate = tabulate (λ (k : ℕ). getD (r .fixed .gates) k noGate) mostGates in
+    let vs₀ : List ℕ = tabulate (λ (k : ℕ). getD (r .registers .values) k 0) registerCount in
     subst (λ (gs : List CallGate). IsCut r rest gs (r .registers .values) (r .registers .labels))
     (elements noGate (r .fixed .gates) g)
     (subst (λ (vs : List ℕ). IsCut r rest gs₀ vs (r .registers .labels)) (elements 0 (r .registers .values) v)
@@ -117,8 +118,8 @@ call-same (Upcall k q e) t = rw (mod-eq-of-lt (t .back), pair-same q (t .pair)) 
 
 fixed-same : (f : Fixed) → FixedTyped f → cutFixed f ≡ f
 fixed-same f t =
-    let gs : tabulate (λ (k : ℕ). cutGate (getD (f .gates) k noGate)) 8 ≡ f .gates
-    = tabulate-same _ (λ (k : ℕ). getD (f .gates) k noGate) 8 (λ k h. gate-same (getD (f .gates) k noGate) (t .gates k h))
+    let gs : tabulate (λ (k : ℕ). cutGate (getD (f .gates) k noGate)) mostGates ≡ f .gates
+    = tabulate-same _ (λ (k : ℕ). getD (f .gates) k noGate) mostGates (λ k h. gate-same (getD (f .gates) k noGate) (t .gates k h))
     ∙ elements noGate (f .gates) (t .eight) in
     rw (mod-eq-of-lt (t .size), mod-eq-of-lt (t .limit), mod-eq-of-lt (t .errorpc), mod-eq-of-lt (t .count), gs) refl
 
@@ -130,20 +131,20 @@ control-same c t =
 
 bank-same : (b : Bank) → BankTyped b → cutBank b ≡ b
 bank-same b t =
-    let vs : tabulate (λ (k : ℕ). low32 (getD (b .values) k 0)) 16 ≡ b .values
-    = tabulate-same _ (λ (k : ℕ). getD (b .values) k 0) 16 (λ k h. mod-eq-of-lt (t .values k h))
+    let vs : tabulate (λ (k : ℕ). low32 (getD (b .values) k 0)) registerCount ≡ b .values
+    = tabulate-same _ (λ (k : ℕ). getD (b .values) k 0) registerCount (λ k h. mod-eq-of-lt (t .values k h))
     ∙ elements 0 (b .values) (t .sixteen) in
-    let ls : tabulate (λ (k : ℕ). low8 (getD (b .labels) k 0)) 16 ≡ b .labels
-    = tabulate-same _ (λ (k : ℕ). getD (b .labels) k 0) 16 (λ k h. mod-eq-of-lt (t .labels k h))
+    let ls : tabulate (λ (k : ℕ). low8 (getD (b .labels) k 0)) registerCount ≡ b .labels
+    = tabulate-same _ (λ (k : ℕ). getD (b .labels) k 0) registerCount (λ k h. mod-eq-of-lt (t .labels k h))
     ∙ elements 0 (b .labels) (t .marks) in
     rw (vs, ls) refl
 
 -- ---- what is read is a record of the code
 
-low32-lt : (x : ℕ) → low32 x < 2 ^ 32
+low32-lt : (x : ℕ) → low32 x < valueCount
 low32-lt x = mod-lt x (omega arith)
 
-low8-lt : (x : ℕ) → low8 x < 2 ^ 8
+low8-lt : (x : ℕ) → low8 x < byteCount
 low8-lt x = mod-lt x (omega arith)
 
 pair-typed : (p t : ℕ) → PairTyped (pairFrom p t)
@@ -154,7 +155,7 @@ unfolding gateIn
 gate-typed b i = record { entry = low32-lt _; pair = pair-typed _ _ }
 
 kept-typed :
-    (gate upcall : Bool) (back : ℕ) (q : Pair) (e : ℕ) → back < 2 ^ 32 → PairTyped q
+    (gate upcall : Bool) (back : ℕ) (q : Pair) (e : ℕ) → back < valueCount → PairTyped q
     → CallTyped (cond gate (Gate back q) (cond upcall (Upcall back q e) Empty))
 kept-typed true upcall back q e h t = record { back = h; pair = t }
 kept-typed false true back q e h t = record { back = h; pair = t }
@@ -174,8 +175,8 @@ fixed-typed b =
       limit = low32-lt _;
       errorpc = low32-lt _;
       count = low32-lt _;
-      eight = length-tabulate _ 8;
-      gates = λ k h. rw (getD-tabulate _ 8 k noGate h) (gate-typed b _);
+      eight = length-tabulate _ mostGates;
+      gates = λ k h. rw (getD-tabulate _ mostGates k noGate h) (gate-typed b _);
     }
 
 control-typed : (b : List ℕ) → ControlTyped (controlIn b)
@@ -195,10 +196,10 @@ bank-typed : (b : List ℕ) → BankTyped (registersIn b)
 unfolding registersIn
 bank-typed b =
     record {
-      sixteen = length-tabulate _ 16;
-      values = λ k h. rw (getD-tabulate {A = ℕ} _ 16 k 0 h) (low32-lt _);
-      marks = length-tabulate _ 16;
-      labels = λ k h. rw (getD-tabulate {A = ℕ} _ 16 k 0 h) (low8-lt _);
+      sixteen = length-tabulate _ registerCount;
+      values = λ k h. rw (getD-tabulate {A = ℕ} _ registerCount k 0 h) (low32-lt _);
+      marks = length-tabulate _ registerCount;
+      labels = λ k h. rw (getD-tabulate {A = ℕ} _ registerCount k 0 h) (low8-lt _);
     }
 
 typed-in : (b : List ℕ) → Typed (recordIn b)

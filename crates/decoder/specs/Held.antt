@@ -12,6 +12,7 @@ use Rattle.model.specs.declared.Fixed.{Fixed}
 use Rattle.model.specs.declared.Control.{Control}
 use Rattle.model.specs.declared.Call.{Call}
 use Rattle.model.specs.declared.Call.the-variants.{Empty, Gate, Upcall}
+use Rattle.model.specs.Numbers.{mostGates, registerCount, valueCount}
 use Rattle.model.specs.Record.{Bank, Machine}
 use Rattle.encoder.specs.Places as at
 use Rattle.encoder.specs.Layout.{wordsOf}
@@ -22,13 +23,17 @@ use Rattle.encoder.specs.Layout.{wordsOf}
 abbrev pub wordAt : List ℕ → ℕ → ℕ
 wordAt b i = getD b i 0
 
--- The part of a word that fits 32 bits.
+-- The part of a word that a field of 32 bits can hold, as wide as a value.
 abbrev pub low32 : ℕ → ℕ
-low32 x = x % 2 ^ 32
+low32 x = x % valueCount
 
--- The part of a word that fits a label.
+-- Bytes are below this number. Labels, ends and whys are bytes.
+abbrev pub byteCount : ℕ
+byteCount = 2 ^ 8
+
+-- The part of a word that a byte can hold.
 abbrev pub low8 : ℕ → ℕ
-low8 x = x % 2 ^ 8
+low8 x = x % byteCount
 
 -- A pair from two words.
 abbrev pub pairFrom : ℕ → ℕ → Pair
@@ -65,7 +70,7 @@ fixedIn b =
       limit = low32 (wordAt b at.limit);
       errorpc = low32 (wordAt b at.errorPc);
       count = low32 (wordAt b at.gateCount);
-      gates = tabulate (λ (k : ℕ). gateIn b (at.firstGate + at.gateSpan * k)) 8;
+      gates = tabulate (λ (k : ℕ). gateIn b (at.firstGate + at.gateSpan * k)) mostGates;
     }
 
 -- What a step changes besides registers and memory, from its words.
@@ -85,8 +90,8 @@ controlIn b =
 unfoldable pub registersIn : List ℕ → Bank
 registersIn b =
     record {
-      values = tabulate (λ (k : ℕ). low32 (wordAt b (at.firstValue + k))) 16;
-      labels = tabulate (λ (k : ℕ). low8 (wordAt b (at.firstLabel + k))) 16;
+      values = tabulate (λ (k : ℕ). low32 (wordAt b (at.firstValue + k))) registerCount;
+      labels = tabulate (λ (k : ℕ). low8 (wordAt b (at.firstLabel + k))) registerCount;
     }
 
 -- The record that the words give if each is cut to what its field can hold.

@@ -1,16 +1,24 @@
 // A record from words: each word is cut to what its field can hold.
 use encoder::places;
+use encoder::places::MOST_GATES;
 use machine::Machine;
 use model::Call;
 use model::CallGate;
 use model::Control;
 use model::Fixed;
 use model::Pair;
+use model::numbers::REGISTER_COUNT;
 ghost use mathlib.Core.Path.{_≡_};
-ghost use Prim.Native.Nat.{_<_, _%_, _^_};
+ghost use Prim.Native.Nat.{_<_};
 ghost use Rattle.encoder.specs.Places.{span};
 ghost use Rattle.machine.specs.Answered.{recordOf};
-ghost use Rattle.decoder.specs.Held.{wordAt, pairFrom, callFrom, callIn, gateIn, fixedIn, controlIn, registersIn, recordIn};
+ghost use Rattle.decoder.specs.Held.{wordAt, low32, low8, pairFrom, callFrom, callIn, gateIn, fixedIn, controlIn, registersIn, recordIn};
+
+// Values are below this number: 2^32.
+const VALUE_COUNT: u64 = 4294967296;
+
+// Bytes are below this number.
+const BYTE_COUNT: u64 = 256;
 
 // Word `at` of the buffer, 0 behind its end.
 fn word(buffer: &[u64], at: usize) -> u64
@@ -21,16 +29,16 @@ fn word(buffer: &[u64], at: usize) -> u64
 
 // The low 32 bits of a word.
 fn low32(x: u64) -> u32
-    ensures { λ r. ⌜ r ≡ x % 2 ^ 32 ⌝ }
+    ensures { λ r. ⌜ r ≡ low32 x ⌝ }
 {
-    (x & 0xffff_ffff) as u32
+    (x % VALUE_COUNT) as u32
 }
 
 // The low 8 bits of a word.
 fn low8(x: u64) -> u8
-    ensures { λ r. ⌜ r ≡ x % 2 ^ 8 ⌝ }
+    ensures { λ r. ⌜ r ≡ low8 x ⌝ }
 {
-    (x & 0xff) as u8
+    (x % BYTE_COUNT) as u8
 }
 
 // A pair from two words.
@@ -83,13 +91,13 @@ fn gate_in(buffer: &[u64], at: usize) -> CallGate
     }
 }
 
-// The eight gates.
-fn gates_in(buffer: &[u64]) -> [CallGate; 8]
+// The gates.
+fn gates_in(buffer: &[u64]) -> [CallGate; MOST_GATES]
     ensures { λ r. ⌜ r ≡ fixedIn (now (buffer .entry)) .gates ⌝ }
 {
-    let mut gates = [gate_in(buffer, places::FIRST_GATE); 8];
+    let mut gates = [gate_in(buffer, places::FIRST_GATE); MOST_GATES];
     let mut k = 0;
-    while k < 8 {
+    while k < MOST_GATES {
         gates[k] = gate_in(buffer, places::FIRST_GATE + places::GATE_SPAN * k);
         k += 1;
     }
@@ -131,26 +139,26 @@ fn control_in(buffer: &[u64]) -> Control
     }
 }
 
-// The sixteen register values.
-fn values_in(buffer: &[u64]) -> [u32; 16]
+// The register values.
+fn values_in(buffer: &[u64]) -> [u32; REGISTER_COUNT]
     ensures { λ r. ⌜ r ≡ registersIn (now (buffer .entry)) .values ⌝ }
 {
-    let mut values = [0u32; 16];
+    let mut values = [0u32; REGISTER_COUNT];
     let mut k = 0;
-    while k < 16 {
+    while k < REGISTER_COUNT {
         values[k] = low32(word(buffer, places::FIRST_VALUE + k));
         k += 1;
     }
     values
 }
 
-// The sixteen register labels.
-fn labels_in(buffer: &[u64]) -> [u8; 16]
+// The register labels.
+fn labels_in(buffer: &[u64]) -> [u8; REGISTER_COUNT]
     ensures { λ r. ⌜ r ≡ registersIn (now (buffer .entry)) .labels ⌝ }
 {
-    let mut labels = [0u8; 16];
+    let mut labels = [0u8; REGISTER_COUNT];
     let mut k = 0;
-    while k < 16 {
+    while k < REGISTER_COUNT {
         labels[k] = low8(word(buffer, places::FIRST_LABEL + k));
         k += 1;
     }

@@ -7,6 +7,7 @@ use mathlib.Core.List.{List, [], _∷_, _++_}
 use lib.ListN.{length, length-append}
 use lib.Seq.{sets}
 use Rattle.model.specs.declared.CallGate.{CallGate}
+use Rattle.model.specs.Numbers.{mostGates, registerCount}
 use Rattle.model.specs.Record.{Machine}
 use Rattle.encoder.specs.Places as at
 use Rattle.encoder.specs.Layout.{gatesWords, fixedWords, controlWords, wordsOf}
@@ -28,7 +29,7 @@ gate-rows = record { none = refl; join = gates-append; span = length-gates }
 
 -- The words of the four parts of a record, put one behind another.
 pub put-parts :
-    (b : List ℕ) (r : Machine) {b₁ b₂ b₃ b₄ : List ℕ} → length (r .fixed .gates) ≡ 8 → length (r .registers .values) ≡ 16
+    (b : List ℕ) (r : Machine) {b₁ b₂ b₃ b₄ : List ℕ} → length (r .fixed .gates) ≡ mostGates → length (r .registers .values) ≡ registerCount
     → b₁ ≡ sets b at.size (fixedWords (r .fixed)) → b₂ ≡ sets b₁ at.pc (controlWords (r .control))
     → b₃ ≡ sets b₂ at.firstValue (r .registers .values) → b₄ ≡ sets b₃ at.firstLabel (r .registers .labels) → b₄ ≡ sets b 0 (wordsOf r)
 unfolding wordsOf
@@ -43,7 +44,7 @@ put-parts b r {b₁} {b₂} {b₃} {b₄} g v p q s t =
     ∙ sets-then b 0 (fixedWords (r .fixed)) (c ++ (vs ++ ls)) (rw f refl)
 
 pub length-words :
-    (r : Machine) → length (r .fixed .gates) ≡ 8 → length (r .registers .values) ≡ 16 → length (r .registers .labels) ≡ 16
+    (r : Machine) → length (r .fixed .gates) ≡ mostGates → length (r .registers .values) ≡ registerCount → length (r .registers .labels) ≡ registerCount
     → length (wordsOf r) ≡ at.span
 unfolding wordsOf
 length-words r g v l =

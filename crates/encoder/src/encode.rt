@@ -1,15 +1,18 @@
 // A record's words, put into a buffer: what lies behind the buffer's end is not written.
 use crate::places;
+use crate::places::MOST_GATES;
 use machine::Machine;
 use model::Call;
 use model::CallGate;
 use model::Control;
 use model::Fixed;
 use model::Pair;
+use model::numbers::REGISTER_COUNT;
 ghost use mathlib.Core.Path.{_≡_};
 ghost use Prim.Native.Nat.{_<_};
 ghost use lib.ListN.{length, set};
 ghost use lib.Seq.{sets};
+ghost use Rattle.model.specs.Numbers.{mostGates};
 ghost use Rattle.machine.specs.Answered.{recordOf};
 ghost use Rattle.encoder.specs.Layout.{keptWords, callWords, gateWords, gatesWords, fixedWords, controlWords, wordsOf};
 ghost use Rattle.encoder.specs.Places.{span, size, firstGate, pc, firstValue, firstLabel};
@@ -72,20 +75,20 @@ fn put_gate(gate: CallGate, buffer: &mut [u64], at: usize)
     put8(gate.pair.timing, buffer, at + places::GATE_TIMING_LABEL);
 }
 
-// Puts the eight gates.
-fn put_gates(gates: [CallGate; 8], buffer: &mut [u64])
-    ensures { λ r. ⌜ (now (buffer .exit) ≡ sets (now (buffer .entry)) firstGate (gatesWords gates)) × (length gates ≡ 8) ⌝ }
+// Puts the gates.
+fn put_gates(gates: [CallGate; MOST_GATES], buffer: &mut [u64])
+    ensures { λ r. ⌜ (now (buffer .exit) ≡ sets (now (buffer .entry)) firstGate (gatesWords gates)) × (length gates ≡ mostGates) ⌝ }
 {
     let mut k = 0;
-    while k < 8 {
+    while k < MOST_GATES {
         put_gate(gates[k], buffer, places::FIRST_GATE + places::GATE_SPAN * k);
         k += 1;
     }
 }
 
-// Puts what no step changes. There are eight gates.
+// Puts what no step changes. There is room for as many gates as there may be.
 fn put_fixed(fixed: Fixed, buffer: &mut [u64])
-    ensures { λ r. ⌜ (now (buffer .exit) ≡ sets (now (buffer .entry)) size (fixedWords fixed)) × (length (fixed .gates) ≡ 8) ⌝ }
+    ensures { λ r. ⌜ (now (buffer .exit) ≡ sets (now (buffer .entry)) size (fixedWords fixed)) × (length (fixed .gates) ≡ mostGates) ⌝ }
 {
     put32(fixed.size, buffer, places::SIZE);
     put32(fixed.limit, buffer, places::LIMIT);
@@ -111,23 +114,23 @@ fn put_control(control: Control, buffer: &mut [u64])
     put8(control.why, buffer, places::WHY);
 }
 
-// Puts the sixteen register values.
-fn put_values(values: [u32; 16], buffer: &mut [u64])
+// Puts the register values.
+fn put_values(values: [u32; REGISTER_COUNT], buffer: &mut [u64])
     ensures { λ r. ⌜ now (buffer .exit) ≡ sets (now (buffer .entry)) firstValue values ⌝ }
 {
     let mut k = 0;
-    while k < 16 {
+    while k < REGISTER_COUNT {
         put32(values[k], buffer, places::FIRST_VALUE + k);
         k += 1;
     }
 }
 
-// Puts the sixteen register labels.
-fn put_labels(labels: [u8; 16], buffer: &mut [u64])
+// Puts the register labels.
+fn put_labels(labels: [u8; REGISTER_COUNT], buffer: &mut [u64])
     ensures { λ r. ⌜ now (buffer .exit) ≡ sets (now (buffer .entry)) firstLabel labels ⌝ }
 {
     let mut k = 0;
-    while k < 16 {
+    while k < REGISTER_COUNT {
         put8(labels[k], buffer, places::FIRST_LABEL + k);
         k += 1;
     }

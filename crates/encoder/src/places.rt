@@ -1,7 +1,11 @@
 // Where each number of a record stands in its buffer: the names and numbers of specs/Places.antt.
+use model::numbers;
 
 // How many words a record takes.
 pub const SPAN: usize = 76;
+
+// The most gates, as a length: a record has places for so many.
+pub const MOST_GATES: usize = numbers::MOST_GATES as usize;
 
 // How many words of memory there are.
 pub const SIZE: usize = 0;

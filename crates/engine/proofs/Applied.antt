@@ -11,6 +11,7 @@ use Rattle.model.specs.declared.Pair.{Pair}
 use Rattle.model.specs.declared.CallGate.{CallGate}
 use Rattle.model.specs.declared.Control.{Control}
 use Rattle.model.specs.declared.Call.{Call}
+use Rattle.model.specs.Numbers.{mostWords, registerCount}
 use Rattle.model.specs.Record.{State, register, labelAt, newest, endTickOf}
 use Rattle.model.specs.Ops.{nothing, value, Change, write, goto, enter, openUpcall, openGate, closeGate, stop}
 use Rattle.model.specs.Step.{written, causeAllowed, causeWrite, writeOf, restored, changed, controlAfter, endTick}
@@ -18,25 +19,26 @@ use Rattle.engine.specs.declared.steps.rest.Act.{Act}
 use Rattle.engine.specs.declared.steps.rest.Act.the-variants.{Pass, SetLabel, Enter, OpenUpcall, OpenGate}
 use Rattle.engine.specs.declared.steps.rest.Verdict.{Verdict}
 use Rattle.engine.specs.declared.steps.rest.Verdict.the-variants.{Close, Carry}
-use Rattle.engine.specs.Rest.{newestOf, changeOf, decisionOf, Writes, Held, Admits}
-use Rattle.engine.specs.Apply.{banked, Labelled, Wrote, controlOf, restoredTo, Changed, Controlled}
+use Rattle.engine.specs.Calls.{newestOf}
+use Rattle.engine.specs.Inner.Rest.{changeOf, decisionOf, Writes, Held, Admits}
+use Rattle.engine.specs.Inner.Apply.{banked, Labelled, Wrote, controlOf, restoredTo, Changed, Controlled}
 
 -- ---- what is asked of an act
 
 module _ {act : Act} {pc : ℕ} where
-  pub asked-pass : act ≡ Pass → Writes act pc → pc < 2048
+  pub asked-pass : act ≡ Pass → Writes act pc → pc < mostWords
   asked-pass q h = rw q at h
 
-  pub asked-label : {a l : ℕ} → act ≡ SetLabel a l → Writes act pc → (a < 16) × (pc < 2048)
+  pub asked-label : {a l : ℕ} → act ≡ SetLabel a l → Writes act pc → (a < registerCount) × (pc < mostWords)
   asked-label q h = rw q at h
 
-  pub asked-enter : {p : Pair} → act ≡ Enter p → Writes act pc → pc < 2048
+  pub asked-enter : {p : Pair} → act ≡ Enter p → Writes act pc → pc < mostWords
   asked-enter q h = rw q at h
 
-  pub asked-upcall : {k e : ℕ} {p : Pair} → act ≡ OpenUpcall k p e → Writes act pc → pc < 2048
+  pub asked-upcall : {k e : ℕ} {p : Pair} → act ≡ OpenUpcall k p e → Writes act pc → pc < mostWords
   asked-upcall q h = rw q at h
 
-  pub asked-gate : {k : ℕ} {p : Pair} → act ≡ OpenGate k p → Writes act pc → pc < 2048
+  pub asked-gate : {k : ℕ} {p : Pair} → act ≡ OpenGate k p → Writes act pc → pc < mostWords
   asked-gate q h = rw q at h
 
 module _ {d : Verdict} where

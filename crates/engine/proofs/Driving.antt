@@ -12,6 +12,7 @@ use Rattle.model.specs.declared.CallGate.{CallGate}
 use Rattle.model.specs.declared.Fixed.{Fixed}
 use Rattle.model.specs.declared.Control.{Control}
 use Rattle.model.specs.declared.Call.{Call}
+use Rattle.model.specs.Numbers.{mostWords}
 use Rattle.model.specs.Record.{State, isUpcall, endTickOf, newest, inUpcall}
 use Rattle.model.proofs.Truth.{and-iff, or-iff, clash}
 use Rattle.model.specs.Step.{Decision, endTick, running, decide, written, writeOf, controlAfter, apply, withControl, step, steps}
@@ -22,11 +23,13 @@ use Rattle.engine.specs.declared.steps.common.Context.{Context}
 use Rattle.engine.specs.declared.steps.drive.Halted.{Halted}
 use Rattle.engine.specs.declared.steps.rest.Verdict.{Verdict}
 use Rattle.engine.specs.declared.steps.rest.Verdict.the-variants.{Spend, Stall, Close, Carry}
-use Rattle.engine.specs.Common.{view, deadlineOf, Timed, Stopped}
-use Rattle.engine.specs.Sprint.{Paused, Sprinted}
-use Rattle.engine.specs.Rest.{newestOf, Ready, Held, Admits, Decided}
-use Rattle.engine.specs.Apply.{Wrote, controlOf, Controlled}
-use Rattle.engine.specs.Drive.{stateFrom, contextOf, fitting, advanced, strode, Fit, Driven, relabelsAt, endsAt}
+use Rattle.engine.specs.Calls.{deadlineOf, newestOf}
+use Rattle.engine.specs.Advance.{stateFrom, fitting, advanced, strode}
+use Rattle.engine.specs.Inner.Common.{view, Timed, Stopped}
+use Rattle.engine.specs.Inner.Sprint.{Paused, Sprinted}
+use Rattle.engine.specs.Inner.Rest.{Ready, Held, Admits, Decided}
+use Rattle.engine.specs.Inner.Apply.{Wrote, controlOf, Controlled}
+use Rattle.engine.specs.Inner.Drive.{contextOf, InRanges, Driven, relabelsAt, endsAt}
 use Rattle.engine.specs.Skim.{Skim, skim, ends, stride}
 use Rattle.engine.proofs.Loop.{steps-one}
 use Rattle.engine.proofs.Skimming.{skim-steps, skim-ended, skim-none, skim-paused, ends-paused, stride-ends, stride-goes, ends-first, ends-none}
@@ -63,7 +66,7 @@ paused-stop Unreadable n s h e = e .1
 paused-stop Failed n s h e = e .1
 paused-stop (Rest w) n s h e = e .1
 
-ready-of : (stop : Stop) (s : State) → s .fixed .size ≤ 2048 → Stopped stop s → Ready stop (s .control .pc)
+ready-of : (stop : Stop) (s : State) → s .fixed .size ≤ mostWords → Stopped stop s → Ready stop (s .control .pc)
 ready-of Out s h e = tt
 ready-of Late s h e = tt
 ready-of Outside s h e = tt
@@ -87,12 +90,12 @@ pub record Went (fixed : Fixed) (start : Control) (count : ℕ) (once : Bool) (v
   pub strides :
       once ≡ true
       → stride count (stateFrom fixed start values₀ labels₀ words₀ marks) ≡ stride left (stateFrom fixed control values labels words marks)
-  pub fit : Fit fixed control words marks
+  pub ranges : InRanges fixed control words marks
   pub long : length words ≡ length words₀
 
-pub went-none : {fixed : Fixed} {start : Control} {count : ℕ} {once : Bool} {values labels words marks : List ℕ} → Fit fixed start words marks
+pub went-none : {fixed : Fixed} {start : Control} {count : ℕ} {once : Bool} {values labels words marks : List ℕ} → InRanges fixed start words marks
     → Went fixed start count once values labels words marks start count values labels words
-went-none h = record { run = refl; strides = λ a. refl; fit = h; long = refl }
+went-none h = record { run = refl; strides = λ a. refl; ranges = h; long = refl }
 
 module _ {fixed : Fixed} {start : Control} {count : ℕ} {once : Bool} {values₀ labels₀ words₀ marks : List ℕ} {control : Control} {left : ℕ} {values labels words : List ℕ} (h : Went fixed start count once values₀ labels₀ words₀ marks control left values labels words) where
   abbrev now : State
@@ -181,7 +184,7 @@ module _ {fixed : Fixed} {start : Control} {count : ℕ} {once : Bool} {values�
         stopped-there = paused-stop (pause .stop) (pause .left) _ more (p .paused (stateFrom fixed control values labels words marks) timed)
 
         pub ready-there : Ready (pause .stop) (pause .pc)
-        ready-there = ready-of (pause .stop) _ (h .fit .size) stopped-there
+        ready-there = ready-of (pause .stop) _ (h .ranges .size) stopped-there
 
         -- One step of what the hot loop stopped at.
         module _ {verdict : Verdict} {values″ labels″ : List ℕ} {control′ : Control} (a : Decided (pause .stop) (pause .pc) (fixed .errorpc) (fixed .limit) (control .pair .pc) (control .pair .timing) (pause .clock) call (fixed .count) (fixed .gates) values′ labels verdict) (b : Wrote verdict (control .pair .timing) values′ labels values″ labels″) (k : Controlled (control .pair) (control .first) (control .second) (control .end) (control .why) (pause .pc) (pause .clock) (fixed .limit) verdict control′) where
@@ -209,14 +212,14 @@ module _ {fixed : Fixed} {start : Control} {count : ℕ} {once : Bool} {values�
               record {
                 run = h .run ∙ steps-there ∙ steps-one (pause .left) _ more ∙ ap (steps (pause .left - 1)) stepped;
                 strides = λ x. clash x busy;
-                fit =
+                ranges =
                     record {
-                      size = h .fit .size;
-                      limit = h .fit .limit;
-                      gates = h .fit .gates;
+                      size = h .ranges .size;
+                      limit = h .ranges .limit;
+                      gates = h .ranges .gates;
                       clock = k .bounded within;
-                      words = rw same (h .fit .words);
-                      marks = h .fit .marks;
+                      words = rw same (h .ranges .words);
+                      marks = h .ranges .marks;
                     };
                 long = same ∙ h .long;
               }
@@ -242,8 +245,8 @@ module _ {stop : Stop} {pc errorpc limit p t clock : ℕ} {call : Call} {count :
 -- ---- what the ranges say
 
 module _ {fixed : Fixed} {control : Control} {words marks : List ℕ} where
-  pub fit-there : fitting (stateFrom fixed control [] [] words marks) ≡ true → Fit fixed control words marks
-  fit-there e =
+  pub ranges-there : fitting (stateFrom fixed control [] [] words marks) ≡ true → InRanges fixed control words marks
+  ranges-there e =
       let h = simp and-iff at e in
       record {
         size = leb-true _ _ (h .0 .0 .0 .0 .0);
@@ -254,12 +257,12 @@ module _ {fixed : Fixed} {control : Control} {words marks : List ℕ} where
         marks = leb-true _ _ (h .1);
       }
 
-  pub advanced-there : (n : ℕ) (values labels : List ℕ) → Fit fixed control words marks
+  pub advanced-there : (n : ℕ) (values labels : List ℕ) → InRanges fixed control words marks
       → advanced n (stateFrom fixed control values labels words marks) ≡ steps n (stateFrom fixed control values labels words marks)
   advanced-there n values labels h =
       rw (le-leb _ _ (h .size), le-leb _ _ (h .limit), le-leb _ _ (h .gates), le-leb _ _ (h .clock), le-leb _ _ (h .words), le-leb _ _ (h .marks))
 
-  pub strode-there : (n : ℕ) (values labels : List ℕ) → Fit fixed control words marks
+  pub strode-there : (n : ℕ) (values labels : List ℕ) → InRanges fixed control words marks
       → strode n (stateFrom fixed control values labels words marks) ≡ stride n (stateFrom fixed control values labels words marks)
   strode-there n values labels h =
       rw (le-leb _ _ (h .size), le-leb _ _ (h .limit), le-leb _ _ (h .gates), le-leb _ _ (h .clock), le-leb _ _ (h .words), le-leb _ _ (h .marks))

@@ -17,8 +17,8 @@ use Rattle.engine.specs.declared.steps.common.Stop.the-variants.{Out, La
 use Rattle.engine.specs.declared.steps.common.Turn.{Turn}
 use Rattle.engine.specs.declared.steps.common.Pause.{Pause}
 use Rattle.engine.specs.Skim.{isCommon, skim}
-use Rattle.engine.specs.Common.{view, Timed, Stopped, Turned}
-use Rattle.engine.specs.Sprint.{Paused, Sprinted}
+use Rattle.engine.specs.Inner.Common.{view, Timed, Stopped, Turned}
+use Rattle.engine.specs.Inner.Sprint.{Paused, Sprinted}
 
 -- One of some steps, and the rest of them.
 pub steps-one : (n : ℕ) (s : State) → 0 < n → steps n s ≡ steps (n - 1) (step s)

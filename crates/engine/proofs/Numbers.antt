@@ -5,6 +5,7 @@ use mathlib.Core.Path.{_≡_, subst⁻¹}
 use native.Mathlib.Nat.{lt-of-le-of-lt, mul-le-mul-left, le-of-lt, mul-lt-mul-of-pos-right}
 use native.Mathlib.Omega.{arith}
 use lib.Pow.{pow-pos, pow-add}
+use Rattle.model.specs.Numbers.{mostTicks}
 
 -- The product of two numbers of k bits has 2 k bits.
 pub below : (k : ℕ) {a b : ℕ} → a < 2 ^ k → b < 2 ^ k → a * b < 2 ^ (k + k)
@@ -17,5 +18,5 @@ pub subtracted : (r x y : ℕ) → r < 2 ^ 32 → y < 2 ^ 32 → (r + y) % 2 ^ 3
 subtracted r x y hr hy e = omega arith
 
 -- A clock fits a word.
-pub below-word : {n : ℕ} → n ≤ 16777216 → n % 2 ^ 32 ≡ n
+pub below-word : {n : ℕ} → n ≤ mostTicks → n % 2 ^ 32 ≡ n
 below-word h = omega arith

@@ -18,9 +18,9 @@ use Rattle.model.proofs.Truth.{choice, either, clash, or-iff}
 use Rattle.engine.specs.declared.steps.common.Stop.{Stop}
 use Rattle.engine.specs.declared.steps.common.Stop.the-variants.{Out, Late, Outside, Unreadable, Failed, Rest}
 use Rattle.engine.specs.Skim.{isCommonOp, fetchesCommon, isCommon, Skim, skim, fetchesRelabelling, ends, stride}
-use Rattle.engine.specs.Drive.{relabelsAt, endsAt}
-use Rattle.engine.specs.Common.{lateOf, Timed, Stopped}
-use Rattle.engine.specs.Sprint.{Paused}
+use Rattle.engine.specs.Inner.Common.{lateOf, Timed, Stopped}
+use Rattle.engine.specs.Inner.Sprint.{Paused}
+use Rattle.engine.specs.Inner.Drive.{relabelsAt, endsAt}
 use Rattle.engine.proofs.Turns.{decides}
 
 -- So many steps are those that are left after the common ops.

@@ -21,7 +21,8 @@ use Rattle.engine.specs.declared.steps.common.Stop.{Stop}
 use Rattle.engine.specs.declared.steps.common.Stop.the-variants.{Late, Failed}
 use Rattle.engine.specs.declared.steps.common.Turn.{Turn}
 use Rattle.engine.specs.Skim.{isCommonOp, fetchesCommon, isCommon}
-use Rattle.engine.specs.Common.{going, stopping, timed, gone, Assigned, Loaded, Stored, Gone, moving, deadlineOf, Timed, lateOf, Stopped, Turned}
+use Rattle.engine.specs.Calls.{deadlineOf}
+use Rattle.engine.specs.Inner.Common.{going, stopping, timed, gone, Assigned, ReadWord, Stored, Gone, moving, Timed, lateOf, Stopped, Turned}
 
 -- ---- truth values
 
@@ -238,7 +239,7 @@ module _ {s : State} {up : Bool} {deadline w : ℕ} {op : Op} (h : Timed s up de
 
   -- Op 9.
   pub loads-turn : {a x p lb la size : ℕ} {r : Turn} {values words : List ℕ}
-      → Loaded (s .registers .values) (s .memory .values) (s .memory .labels) a x p lb la size (s .control .pc) (s .control .clock) deadline r values
+      → ReadWord (s .registers .values) (s .memory .values) (s .memory .labels) a x p lb la size (s .control .pc) (s .control .clock) deadline r values
       → table s w op
       ≡ row (ltb x size && flows (join (join p lb) (getD (s .memory .labels) x 0)) la) (does (write (value (register a) (getD (s .memory .values) x 0)))) 3
       → words ≡ s .memory .values → Turned s deadline r values words

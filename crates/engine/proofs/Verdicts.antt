@@ -10,9 +10,10 @@ use native.Mathlib.Omega.{arith}
 use borrow.Author.Tests.{ltb-true, lt-ltb, le-ltb, eq-eqb, ne-eqb}
 use lib.Dec.{ltb, eqb}
 use lib.ListN.{length, getElem?}
-use Rattle.labels.specs.Label.{flows, validPair}
+use Rattle.labels.specs.Label.{labelCount, flows, validPair}
 use Rattle.model.specs.declared.CallGate.{CallGate}
 use Rattle.model.specs.declared.Call.{Call}
+use Rattle.model.specs.Numbers.{mostWords}
 use Rattle.model.specs.Record.{State, isUpcall, endTickOf, newest, inUpcall}
 use Rattle.model.specs.Word.{Op, endUpcall, halt, ops, opField, decode}
 use Rattle.model.specs.Ops.{Change, write, goto, nothing, does, row, isLabel, table}
@@ -24,8 +25,8 @@ use Rattle.engine.specs.declared.steps.rest.Act.the-variants.{Pass, Halt
 use Rattle.engine.specs.declared.steps.rest.Verdict.{Verdict}
 use Rattle.engine.specs.declared.steps.rest.Verdict.the-variants.{Spend, Stall, Close, Carry}
 use Rattle.engine.proofs.Turns.{cond-same, beyond}
-use Rattle.engine.specs.Common.{lateOf, Uncommon, Stopped}
-use Rattle.engine.specs.Rest.{changeOf, decisionOf, allowed, Acts, Held, Short, Timely, Limited, seen, Other, Ready, Rested, Planned, Decided}
+use Rattle.engine.specs.Inner.Common.{lateOf, Uncommon, Stopped}
+use Rattle.engine.specs.Inner.Rest.{changeOf, decisionOf, allowed, Acts, Held, Short, Timely, Limited, stoppedAt, Other, Ready, Rested, Planned, Decided}
 
 -- ---- truth values
 
@@ -38,16 +39,16 @@ both-right : (a b : Bool) → (a && b) ≡ true → b ≡ true
 both-right true b e = e
 both-right false b e = absurd (false≢true e)
 
-is-below : (x : ℕ) → isLabel x ≡ true → x < 256
+is-below : (x : ℕ) → isLabel x ≡ true → x < labelCount
 unfolding isLabel
-is-below x e = ltb-true x 256 e
+is-below x e = ltb-true x labelCount e
 
 -- What a passed test of a label says of the value.
-pub label-below : (x : ℕ) (b : Bool) {ok : Bool} → ok ≡ (isLabel x && b) → ok ≡ true → x < 256
+pub label-below : (x : ℕ) (b : Bool) {ok : Bool} → ok ≡ (isLabel x && b) → ok ≡ true → x < labelCount
 label-below x b e t = is-below x (both-left (isLabel x) b (sym e ∙ t))
 
 -- What a passed test of a pair says of the values.
-pub pair-below : (x y lb lc p : ℕ) {ok : Bool} → ok ≡ allowed x y lb lc p → ok ≡ true → (x < 256) × (y < 256)
+pub pair-below : (x y lb lc p : ℕ) {ok : Bool} → ok ≡ allowed x y lb lc p → ok ≡ true → (x < labelCount) × (y < labelCount)
 pair-below x y lb lc p e t =
     (is-below x (both-left (isLabel x) (isLabel y) labels), is-below y (both-right (isLabel x) (isLabel y) labels))
   where
@@ -147,17 +148,17 @@ unknown-op (suc n) o a b c d e f g h =
 -- ---- what the newest call says of the state
 
 module _ (s : State) (errorpc limit count : ℕ) (gates : List CallGate) (pc p t clock : ℕ) (values labels : List ℕ) {call : Call} (c : newest (s .control) ≡ call) where
-  seen-upcall : {up : Bool} → up ≡ isUpcall call → inUpcall (seen s errorpc limit count gates pc p t clock values labels .control) ≡ up
+  stoppedAt-upcall : {up : Bool} → up ≡ isUpcall call → inUpcall (stoppedAt s errorpc limit count gates pc p t clock values labels .control) ≡ up
   unfolding inUpcall newest
-  seen-upcall u = ap isUpcall c ∙ sym u
+  stoppedAt-upcall u = ap isUpcall c ∙ sym u
 
-  seen-end : {end : ℕ} → end ≡ endTickOf call → endTick (seen s errorpc limit count gates pc p t clock values labels) ≡ end
+  stoppedAt-end : {end : ℕ} → end ≡ endTickOf call → endTick (stoppedAt s errorpc limit count gates pc p t clock values labels) ≡ end
   unfolding endTick newest
-  seen-end f = ap endTickOf c ∙ sym f
+  stoppedAt-end f = ap endTickOf c ∙ sym f
 
-  pub seen-newest : newest (seen s errorpc limit count gates pc p t clock values labels .control) ≡ call
+  pub stoppedAt-newest : newest (stoppedAt s errorpc limit count gates pc p t clock values labels .control) ≡ call
   unfolding newest
-  seen-newest = c
+  stoppedAt-newest = c
 
 attempt-row : (s : State) (check : Bool) (change : Change) (k : ℕ)
     → attempt s (row check (does change) k) ≡ carry k (cond check change (write nothing))
@@ -199,26 +200,26 @@ plan-op s w q e d = ap (λ (o : Option Op). plan s (known w o)) (sym (ap decode 
 module _ {w pc errorpc p t clock : ℕ} {call : Call} {count : ℕ} {gates : List CallGate} {values labels : List ℕ} {r : Verdict} {n : ℕ} (at-op : n ≡ opField w) {up : Bool} (u : up ≡ isUpcall call) where
   -- An op that acts in so many ticks, where its check passes.
   pub rested-row : {k : ℕ} {op : Op} → n ≡ k → decode k ≡ some op → {end : ℕ} → end ≡ endTickOf call → {check : Bool} {change : Change} {act : Act} {ticks : ℕ}
-      → Acts check change act → Timely up end clock ticks act r → ticks ≤ 10 → pc < 2048
-      → ((s : State) (limit : ℕ) → newest (seen s errorpc limit count gates pc p t clock values labels .control) ≡ call
-      → table (seen s errorpc limit count gates pc p t clock values labels) w op ≡ row check (does change) ticks)
+      → Acts check change act → Timely up end clock ticks act r → ticks ≤ 10 → pc < mostWords
+      → ((s : State) (limit : ℕ) → newest (stoppedAt s errorpc limit count gates pc p t clock values labels .control) ≡ call
+      → table (stoppedAt s errorpc limit count gates pc p t clock values labels) w op ≡ row check (does change) ticks)
       → Rested w pc errorpc p t clock call count gates values labels r
   rested-row {k} {op} e d f a m short within row-is =
       record {
         is =
             λ s limit c.
             m .is
-            ∙ timely-row (seen s errorpc limit count gates pc p t clock values labels) w op
-            (seen-upcall s errorpc limit count gates pc p t clock values labels c u)
-            (seen-end s errorpc limit count gates pc p t clock values labels c f) a
-            (row-is s limit (seen-newest s errorpc limit count gates pc p t clock values labels c))
+            ∙ timely-row (stoppedAt s errorpc limit count gates pc p t clock values labels) w op
+            (stoppedAt-upcall s errorpc limit count gates pc p t clock values labels c u)
+            (stoppedAt-end s errorpc limit count gates pc p t clock values labels c f) a
+            (row-is s limit (stoppedAt-newest s errorpc limit count gates pc p t clock values labels c))
             ∙ plan-op _ w at-op e d;
         held = m .held pc (a .writes pc within);
         short = m .short short;
       }
 
   -- Op 19.
-  pub rested-end : n ≡ 19 → pc < 2048 → r ≡ cond up (Close 1) (Carry 1 Pass)
+  pub rested-end : n ≡ 19 → pc < mostWords → r ≡ cond up (Close 1) (Carry 1 Pass)
       → Rested w pc errorpc p t clock call count gates values labels r
   unfolding decode
   rested-end e within q =
@@ -226,8 +227,8 @@ module _ {w pc errorpc p t clock : ℕ} {call : Call} {count : ℕ} {gates : Lis
         is =
             λ s limit c.
             ap decisionOf q
-            ∙ end-row (seen s errorpc limit count gates pc p t clock values labels) w up
-            (seen-upcall s errorpc limit count gates pc p t clock values labels c u)
+            ∙ end-row (stoppedAt s errorpc limit count gates pc p t clock values labels) w up
+            (stoppedAt-upcall s errorpc limit count gates pc p t clock values labels c u)
             ∙ plan-op _ w at-op e refl;
         held = rw q (go up);
         short = rw q (few up);
@@ -249,8 +250,8 @@ module _ {w pc errorpc p t clock : ℕ} {call : Call} {count : ℕ} {gates : Lis
         is =
             λ s limit c.
             ap decisionOf q
-            ∙ halt-row (seen s errorpc limit count gates pc p t clock values labels) w up
-            (seen-upcall s errorpc limit count gates pc p t clock values labels c u)
+            ∙ halt-row (stoppedAt s errorpc limit count gates pc p t clock values labels) w up
+            (stoppedAt-upcall s errorpc limit count gates pc p t clock values labels c u)
             ∙ plan-op _ w at-op e refl;
         held = rw q (go up);
         short = rw q (few up);
@@ -273,9 +274,9 @@ module _ {w pc errorpc p t clock : ℕ} {call : Call} {count : ℕ} {gates : Lis
         is =
             λ s limit c.
             q .0
-            ∙ fault-is (seen s errorpc limit count gates pc p t clock values labels) 3
-            (seen-upcall s errorpc limit count gates pc p t clock values labels c u)
-            ∙ ap (λ (o : Option Op). plan (seen s errorpc limit count gates pc p t clock values labels) (known w o)) (sym (ap decode (sym at-op) ∙ unknown));
+            ∙ fault-is (stoppedAt s errorpc limit count gates pc p t clock values labels) 3
+            (stoppedAt-upcall s errorpc limit count gates pc p t clock values labels c u)
+            ∙ ap (λ (o : Option Op). plan (stoppedAt s errorpc limit count gates pc p t clock values labels) (known w o)) (sym (ap decode (sym at-op) ∙ unknown));
         held = q .1;
         short = q .2;
       }
@@ -300,7 +301,7 @@ module _ {stop : Stop} {pc errorpc p t clock : ℕ} {call : Call} {count : ℕ} 
       record {
         is =
             λ s limit e c h.
-            late-is (seen s errorpc limit count gates pc p t clock values labels) ((rw q at h) .0) (seen-upcall s errorpc limit count gates pc p t clock values labels c u);
+            late-is (stoppedAt s errorpc limit count gates pc p t clock values labels) ((rw q at h) .0) (stoppedAt-upcall s errorpc limit count gates pc p t clock values labels c u);
         held = rw f (held-of up);
         short = rw f (short-of up);
       }
@@ -329,8 +330,8 @@ module _ {stop : Stop} {pc errorpc p t clock : ℕ} {call : Call} {count : ℕ} 
             λ s limit e c h.
             running-decides _ e ∙ ap (inLimit _)
             (ap (plan _) (f _ h)
-            ∙ sym (q .0 ∙ fault-is (seen s errorpc limit count gates pc p t clock values labels) why
-            (seen-upcall s errorpc limit count gates pc p t clock values labels c u)));
+            ∙ sym (q .0 ∙ fault-is (stoppedAt s errorpc limit count gates pc p t clock values labels) why
+            (stoppedAt-upcall s errorpc limit count gates pc p t clock values labels c u)));
         held = q .1;
         short = q .2;
       }
@@ -347,7 +348,7 @@ module _ {stop : Stop} {pc errorpc p t clock : ℕ} {call : Call} {count : ℕ} 
       → Planned stop pc errorpc p t clock call count gates values labels r
   planned-rest {w} q a =
       record {
-        is = λ s limit e c h. running-decides _ e ∙ ap (inLimit _) (word-is (seen s errorpc limit count gates pc p t clock values labels) (rw q at h) ∙ sym (a .is s limit c));
+        is = λ s limit e c h. running-decides _ e ∙ ap (inLimit _) (word-is (stoppedAt s errorpc limit count gates pc p t clock values labels) (rw q at h) ∙ sym (a .is s limit c));
         held = a .held;
         short = a .short;
       }
@@ -363,12 +364,12 @@ module _ {stop : Stop} {pc errorpc p t clock : ℕ} {call : Call} {count : ℕ} 
       record {
         is =
             λ s e c h.
-            b .is (seen s errorpc limit count gates pc p t clock values labels) refl refl
-            (seen-end s errorpc limit count gates pc p t clock values labels c f)
+            b .is (stoppedAt s errorpc limit count gates pc p t clock values labels) refl refl
+            (stoppedAt-end s errorpc limit count gates pc p t clock values labels c f)
             ∙ sym (a .is s limit e c h);
         admits = rw (← f) (b .admits pc (a .held));
       }
 
 -- What is known of the word for a reason to stop.
-pub ready-rest : {stop : Stop} {pc w : ℕ} → stop ≡ Rest w → Ready stop pc → (pc < 2048) × Other w
+pub ready-rest : {stop : Stop} {pc w : ℕ} → stop ≡ Rest w → Ready stop pc → (pc < mostWords) × Other w
 ready-rest q h = rw q at h

@@ -1,7 +1,5 @@
 pub mod Skim
--- What the crate's contracts cite.
-pub mod Common
-pub mod Sprint
-pub mod Rest
-pub mod Apply
-pub mod Drive
+pub mod Calls
+pub mod Advance
+-- What only the contracts of inner functions cite.
+pub mod Inner

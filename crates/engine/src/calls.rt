@@ -3,7 +3,7 @@ use model::Call;
 use model::Pair;
 ghost use mathlib.Core.Path.{_≡_};
 ghost use Rattle.model.specs.Record.{isEmpty, isGate, isUpcall, pairOf, returnOf, endTickOf};
-ghost use Rattle.engine.specs.Rest.{newestOf};
+ghost use Rattle.engine.specs.Calls.{newestOf};
 
 // The newest of two open calls.
 pub fn newest(first: Call, second: Call) -> Call

@@ -9,10 +9,12 @@ use model::Fixed;
 use model::numbers::MOST_GATES;
 use model::numbers::MOST_TICKS;
 use model::numbers::MOST_WORDS;
+use model::numbers::REGISTER_COUNT;
 ghost use mathlib.Core.Path.{_≡_};
 ghost use mathlib.Core.Bool.{_&&_};
 ghost use lib.Dec.{leb};
-ghost use Rattle.engine.specs.Drive.{stateFrom, advanced, strodeFrom, strode};
+ghost use Rattle.model.specs.Numbers.{mostWords, mostTicks, mostGates};
+ghost use Rattle.engine.specs.Advance.{stateFrom, advanced, strodeFrom, strode};
 
 mod apply;
 mod common;
@@ -21,7 +23,7 @@ mod rest;
 
 // Whether the steps can be done with words and labels of these lengths.
 fn is_fitting(fixed: Fixed, start: Control, words: usize, labels: usize) -> bool
-    ensures { λ r. ⌜ r ≡ (leb (fixed .size) 2048 && leb (fixed .limit) 16777216 && leb (fixed .count) 8 && leb (start .clock) (fixed .limit) && leb (fixed .size) words && leb (fixed .size) labels) ⌝ }
+    ensures { λ r. ⌜ r ≡ (leb (fixed .size) mostWords && leb (fixed .limit) mostTicks && leb (fixed .count) mostGates && leb (start .clock) (fixed .limit) && leb (fixed .size) words && leb (fixed .size) labels) ⌝ }
 {
     let size = index(fixed.size);
     (fixed.size <= MOST_WORDS)
@@ -37,8 +39,8 @@ pub fn advance(
     fixed: Fixed,
     start: Control,
     count: u32,
-    values: &mut [u32; 16],
-    labels: &mut [u8; 16],
+    values: &mut [u32; REGISTER_COUNT],
+    labels: &mut [u8; REGISTER_COUNT],
     words: &mut [u32],
     marks: &[u8],
 ) -> Control
@@ -57,8 +59,8 @@ pub fn stride(
     fixed: Fixed,
     start: Control,
     count: u32,
-    values: &mut [u32; 16],
-    labels: &mut [u8; 16],
+    values: &mut [u32; REGISTER_COUNT],
+    labels: &mut [u8; REGISTER_COUNT],
     words: &mut [u32],
     marks: &[u8],
 ) -> Halted

@@ -1,6 +1,7 @@
 // A word of the program taken apart: the op's number, the register numbers a, b, c and d, and the number n.
 ghost use Prim.Native.Nat.{_<_};
 ghost use mathlib.Core.Path.{_≡_};
+ghost use Rattle.model.specs.Numbers.{registerCount};
 ghost use Rattle.model.specs.Word.{opField, aField, bField, cField, dField, nField};
 
 // The op's number.
@@ -12,25 +13,25 @@ pub fn op_of(w: u32) -> u32
 
 // The register numbers.
 pub fn a_of(w: u32) -> usize
-    ensures { λ r. ⌜ (r ≡ aField w) × (r < 16) ⌝ }
+    ensures { λ r. ⌜ (r ≡ aField w) × (r < registerCount) ⌝ }
 {
     (w / 1048576 % 16) as usize
 }
 
 pub fn b_of(w: u32) -> usize
-    ensures { λ r. ⌜ (r ≡ bField w) × (r < 16) ⌝ }
+    ensures { λ r. ⌜ (r ≡ bField w) × (r < registerCount) ⌝ }
 {
     (w / 65536 % 16) as usize
 }
 
 pub(crate) fn c_of(w: u32) -> usize
-    ensures { λ r. ⌜ (r ≡ cField w) × (r < 16) ⌝ }
+    ensures { λ r. ⌜ (r ≡ cField w) × (r < registerCount) ⌝ }
 {
     (w % 65536 / 4096) as usize
 }
 
 pub(crate) fn d_of(w: u32) -> usize
-    ensures { λ r. ⌜ (r ≡ dField w) × (r < 16) ⌝ }
+    ensures { λ r. ⌜ (r ≡ dField w) × (r < registerCount) ⌝ }
 {
     (w % 65536 / 256 % 16) as usize
 }

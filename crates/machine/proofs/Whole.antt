@@ -13,14 +13,18 @@ use Rattle.model.specs.declared.Pair.{Pair}
 use Rattle.model.specs.declared.Control.{Control}
 use Rattle.model.specs.declared.Call.{Call}
 use Rattle.model.specs.declared.Call.the-variants.{Empty, Gate, Upcall}
+use Rattle.model.specs.Numbers.{mostWords, mostTicks, mostGates}
 use Rattle.model.specs.Record.{State, machineOf, isEmpty}
 use Rattle.model.specs.Record as records
 use Rattle.model.specs.WellFormed.{isValid, fixedInRange, endInRange, upcallWellFormed, callsWellFormed, wellFormed, lentWhole}
 use Rattle.model.specs.Step.{step, steps, run}
 use Rattle.model.specs.Answer.{answer}
 use Rattle.machine.specs.declared.Machine.{Machine}
-use Rattle.engine.specs.Drive.{stateFrom, Fit}
-use Rattle.machine.specs.Answered.{recordOf, answered, lent, stepped, Carried, overGate}
+use Rattle.engine.specs.Advance.{stateFrom}
+use Rattle.engine.specs.Inner.Drive.{InRanges}
+use Rattle.machine.specs.Answered.{recordOf, answered, lent}
+use Rattle.machine.specs.Inner.Carried.{stepped, Carried}
+use Rattle.machine.specs.Inner.WellFormed.{overGate}
 
 -- ---- the two places for open calls, by the first
 
@@ -62,29 +66,29 @@ module _ (r : records.Machine) (e : wellFormed r ≡ true) where
       (passed-right (fixedInRange (r .fixed) && endInRange (r .control)) _
       (passed-left _ (isValid (r .control .pair)) (passed-left _ (callsWellFormed (r .control) (r .control .first) (r .control .second)) e)))
 
-  size-within : r .fixed .size ≤ 2048
+  size-within : r .fixed .size ≤ mostWords
   unfolding fixedInRange
   size-within =
       leb-true _ _
       (passed-right (leb 1 (r .fixed .size)) _
-      (passed-left _ (leb 1 (r .fixed .limit)) (passed-left _ (leb (r .fixed .limit) (2 ^ 24)) (passed-left _ (leb (r .fixed .count) 8) in-range))))
+      (passed-left _ (leb 1 (r .fixed .limit)) (passed-left _ (leb (r .fixed .limit) mostTicks) (passed-left _ (leb (r .fixed .count) mostGates) in-range))))
 
-  pub limit-within : r .fixed .limit ≤ 16777216
+  pub limit-within : r .fixed .limit ≤ mostTicks
   unfolding fixedInRange
   limit-within =
       leb-true _ _
-      (passed-right (leb 1 (r .fixed .size) && leb (r .fixed .size) 2048 && leb 1 (r .fixed .limit)) _
-      (passed-left _ (leb (r .fixed .count) 8) in-range))
+      (passed-right (leb 1 (r .fixed .size) && leb (r .fixed .size) mostWords && leb 1 (r .fixed .limit)) _
+      (passed-left _ (leb (r .fixed .count) mostGates) in-range))
 
-  gates-within : r .fixed .count ≤ 8
+  gates-within : r .fixed .count ≤ mostGates
   unfolding fixedInRange
   gates-within =
       leb-true _ _
-      (passed-right (leb 1 (r .fixed .size) && leb (r .fixed .size) 2048 && leb 1 (r .fixed .limit) && leb (r .fixed .limit) (2 ^ 24)) _ in-range)
+      (passed-right (leb 1 (r .fixed .size) && leb (r .fixed .size) mostWords && leb 1 (r .fixed .limit) && leb (r .fixed .limit) mostTicks) _ in-range)
 
   -- The ranges that the steps ask.
-  pub fit-of : {words marks : List ℕ} → r .fixed .size ≤ length words → r .fixed .size ≤ length marks → Fit (r .fixed) (r .control) words marks
-  fit-of a b =
+  pub ranges-of : {words marks : List ℕ} → r .fixed .size ≤ length words → r .fixed .size ≤ length marks → InRanges (r .fixed) (r .control) words marks
+  ranges-of a b =
       record { size = size-within; limit = limit-within; gates = gates-within; clock = clock-within; words = a; marks = b }
 
 -- ---- what a call answers

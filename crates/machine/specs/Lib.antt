@@ -1,2 +1,3 @@
--- What the crate's contracts cite.
 pub mod Answered
+-- What only the contracts of inner functions cite.
+pub mod Inner

@@ -7,6 +7,8 @@ use model::CallGate;
 use model::Control;
 use model::Fixed;
 use model::Pair;
+use model::numbers::MOST_GATES;
+use model::numbers::REGISTER_COUNT;
 use wellformed::calls_well_formed;
 use wellformed::end_in_range;
 use wellformed::fixed_in_range;
@@ -22,8 +24,8 @@ mod wellformed;
 pub struct Machine {
     pub fixed: Fixed,
     pub control: Control,
-    pub values: [u32; 16],
-    pub labels: [u8; 16],
+    pub values: [u32; REGISTER_COUNT],
+    pub labels: [u8; REGISTER_COUNT],
 }
 
 // What a call answers.
@@ -42,7 +44,7 @@ impl Machine {
             entry: 0,
             pair: Pair { pc: 0, timing: 0 },
         };
-        let gates = [none; 8];
+        let gates = [none; MOST_GATES as usize];
         let fixed = Fixed {
             size,
             limit,
@@ -59,8 +61,8 @@ impl Machine {
             end: 0,
             why: 0,
         };
-        let values = [0u32; 16];
-        let labels = [Label::LOWEST.0; 16];
+        let values = [0u32; REGISTER_COUNT];
+        let labels = [Label::LOWEST.0; REGISTER_COUNT];
         Machine {
             fixed,
             control,

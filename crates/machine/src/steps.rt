@@ -9,9 +9,11 @@ ghost use Prim.Native.Nat.{_+_, _-_, _≤_};
 ghost use mathlib.Core.Path.{_≡_};
 ghost use mathlib.Core.Bool.{true, cond};
 ghost use lib.ListN.{length};
+ghost use Rattle.model.specs.Numbers.{mostTicks};
 ghost use Rattle.model.specs.WellFormed.{wellFormed};
 ghost use Rattle.model.specs.Answer.{answer, stepAnswer, runAnswer};
-ghost use Rattle.machine.specs.Answered.{recordOf, answered, lent, stepped, Carried};
+ghost use Rattle.machine.specs.Answered.{recordOf, answered, lent};
+ghost use Rattle.machine.specs.Inner.Carried.{stepped, Carried};
 
 // A size as a length.
 fn length_of(size: u32) -> usize
@@ -22,7 +24,7 @@ fn length_of(size: u32) -> usize
 
 // How many steps: one, or as many as a run can take.
 fn step_count(once: bool, limit: u32, clock: u32) -> u32
-    requires { ⌜ (clock ≤ limit) × (limit ≤ 16777216) ⌝ }
+    requires { ⌜ (clock ≤ limit) × (limit ≤ mostTicks) ⌝ }
     ensures { λ r. ⌜ r ≡ cond once 1 (limit - clock + 1) ⌝ }
 {
     if once { 1 } else { limit - clock + 1 }

@@ -14,7 +14,7 @@ ghost use Rattle.model.specs.declared.Control.{Control};
 ghost use Rattle.model.specs.Numbers.{mostWords, mostTicks, mostGates, stalled, unknownOp};
 ghost use Rattle.model.specs.Record.{isEmpty};
 ghost use Rattle.model.specs.WellFormed.{upcallWellFormed, callsWellFormed};
-ghost use Rattle.machine.specs.Answered.{controlAt, overGate};
+ghost use Rattle.machine.specs.Inner.WellFormed.{controlAt, overGate};
 
 // The ranges of what no step changes.
 pub(crate) fn fixed_in_range(size: u32, limit: u32, count: u32) -> bool

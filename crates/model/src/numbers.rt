@@ -9,6 +9,9 @@ pub const MOST_TICKS: u32 = 16777216;
 // The most gates.
 pub const MOST_GATES: u32 = 8;
 
+// How many registers there are.
+pub const REGISTER_COUNT: usize = 16;
+
 // End 3, the last of the ends.
 pub const STALLED: u8 = 3;
 

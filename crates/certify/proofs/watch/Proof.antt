@@ -4,7 +4,7 @@ use mathlib.Core.Path.{refl, _∙_}
 use native.Mathlib.Omega.{arith}
 use borrow.Author.Needs.{needs}
 use Rattle.model.specs.Record.{State}
-use Rattle.engine.specs.Drive.{stateFrom}
+use Rattle.engine.specs.Advance.{stateFrom}
 use Rattle.certify.proofs.Watching.{Watching, watching-start, watching-less, watching-turn, watching-end}
 use Rattle.certify.proofs.Attempt.{attempted-there}
 use Rattle.certify.proofs.watch.Statement.{statement}

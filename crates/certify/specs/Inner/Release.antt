@@ -11,7 +11,7 @@ use Rattle.model.specs.Record.{isUpcall, endTickOf, newest}
 use Rattle.model.specs.Word.{opField, aField, bField}
 use Rattle.model.specs.Ops.{isLabel}
 use Rattle.model.specs.Seen.{within}
-use Rattle.engine.specs.Common.{deadlineOf}
+use Rattle.engine.specs.Calls.{deadlineOf}
 use Rattle.certify.specs.declared.release.Found.{Found}
 use Rattle.certify.specs.declared.release.Found.the-variants.{Word, Nothing}
 

@@ -10,20 +10,23 @@ use labels::Label;
 use model::Call;
 use model::Control;
 use model::Pair;
+use model::numbers::REGISTER_COUNT;
 ghost use Prim.Native.Nat.{ℕ, _+_, _≤_};
 ghost use mathlib.Core.Path.{_≡_};
 ghost use mathlib.Core.Bool.{cond};
 ghost use lib.ListN.{getD, set};
 ghost use Rattle.labels.specs.Label.{flows};
 ghost use Rattle.model.specs.declared.Call.the-variants.{Empty};
+ghost use Rattle.model.specs.Numbers.{mostTicks};
 ghost use Rattle.model.specs.Record.{endTickOf};
-ghost use Rattle.engine.specs.Rest.{newestOf, Writes, Held, Admits};
-ghost use Rattle.engine.specs.Apply.{Labelled, Wrote, controlOf, restoredTo, openedTo, Changed, Controlled};
+ghost use Rattle.engine.specs.Calls.{newestOf};
+ghost use Rattle.engine.specs.Inner.Rest.{Writes, Held, Admits};
+ghost use Rattle.engine.specs.Inner.Apply.{Labelled, Wrote, controlOf, restoredTo, openedTo, Changed, Controlled};
 
 // ---- the registers
 
 // What an act writes: at most a label of a register.
-fn write_label(act: Act, labels: &mut [u8; 16])
+fn write_label(act: Act, labels: &mut [u8; REGISTER_COUNT])
     requires { ⌜ ((n : ℕ) × Writes act n) ⌝ }
     ensures { λ r. ⌜ Labelled act (now (labels .entry)) (now (labels .exit)) ⌝ }
 {
@@ -42,7 +45,7 @@ fn write_label(act: Act, labels: &mut [u8; 16])
 }
 
 // Closing an upcall, register 15 gets the cause if the timing label flows to its label.
-fn write_cause(cause: u8, t: u8, values: &mut [u32; 16], labels: &[u8; 16])
+fn write_cause(cause: u8, t: u8, values: &mut [u32; REGISTER_COUNT], labels: &[u8; REGISTER_COUNT])
     ensures { λ r. ⌜ now (values .exit) ≡ cond (flows t (getD (now (labels .entry)) 15 0)) (set (now (values .entry)) 15 cause) (now (values .entry)) ⌝ }
 {
     if Label(t).flows_to(Label(labels[15])) {
@@ -51,7 +54,12 @@ fn write_cause(cause: u8, t: u8, values: &mut [u32; 16], labels: &[u8; 16])
 }
 
 // What a verdict writes.
-pub(in crate::steps) fn write_back(d: Verdict, t: u8, values: &mut [u32; 16], labels: &mut [u8; 16])
+pub(in crate::steps) fn write_back(
+    d: Verdict,
+    t: u8,
+    values: &mut [u32; REGISTER_COUNT],
+    labels: &mut [u8; REGISTER_COUNT],
+)
     requires { ⌜ ((n : ℕ) × Held d n) ⌝ }
     ensures { λ r. ⌜ Wrote d t (now (values .entry)) (now (labels .entry)) (now (values .exit)) (now (labels .exit)) ⌝ }
 {
@@ -190,7 +198,7 @@ pub(in crate::steps) fn control_after(
     limit: u32,
     d: Verdict,
 ) -> Control
-    requires { ⌜ Admits d pc clock limit (endTickOf (newestOf first second)) × (limit ≤ 16777216) ⌝ }
+    requires { ⌜ Admits d pc clock limit (endTickOf (newestOf first second)) × (limit ≤ mostTicks) ⌝ }
     ensures { λ r. ⌜ Controlled pair first second end why pc clock limit d r ⌝ }
 {
     match d {

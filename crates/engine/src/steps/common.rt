@@ -8,16 +8,18 @@ use crate::word::index;
 use crate::word::n_of;
 use crate::word::op_of;
 use labels::Label;
+use model::numbers::REGISTER_COUNT;
 ghost use Prim.Native.Nat.{_+_, _*_, _%_, _^_, _≤_, _<_};
 ghost use mathlib.Core.Path.{_≡_};
 ghost use mathlib.Core.Bool.{cond, _&&_};
 ghost use lib.Dec.{ltb};
 ghost use lib.ListN.{length, getD, set};
 ghost use Rattle.labels.specs.Label.{flows, join};
+ghost use Rattle.model.specs.Numbers.{mostWords, mostTicks, registerCount};
 ghost use Rattle.model.specs.Word.{nField, compute, add, subtract, less as lessThan, multiply};
 ghost use Rattle.model.specs.Ops.{multiplyTicks};
-ghost use Rattle.engine.specs.Common.{going, stopping, Gone, Assigned, Loaded, Stored, Common};
-ghost use Rattle.engine.specs.Sprint.{Sprinted};
+ghost use Rattle.engine.specs.Inner.Common.{going, stopping, Gone, Assigned, ReadWord, Stored, Common};
+ghost use Rattle.engine.specs.Inner.Sprint.{Sprinted};
 
 // Why the hot loop stopped.
 pub enum Stop {
@@ -139,15 +141,15 @@ fn multiply_ticks(visible: bool, y: u32) -> u32
 
 // Where a branch goes on.
 fn pick(taken: bool, target: u32, pc: u32) -> u32
-    requires { ⌜ pc < 2048 ⌝ }
+    requires { ⌜ pc < mostWords ⌝ }
     ensures { λ r. ⌜ r ≡ cond taken target (pc + 1) ⌝ }
 {
     if taken { target } else { pc + 1 }
 }
 
 // Register a gets v if the check passed.
-fn put(values: &mut [u32; 16], a: usize, ok: bool, v: u32)
-    requires { ⌜ a < 16 ⌝ }
+fn put(values: &mut [u32; REGISTER_COUNT], a: usize, ok: bool, v: u32)
+    requires { ⌜ a < registerCount ⌝ }
     ensures { λ r. ⌜ now (values .exit) ≡ cond ok (set (now (values .entry)) a v) (now (values .entry)) ⌝ }
 {
     if ok {
@@ -157,7 +159,7 @@ fn put(values: &mut [u32; 16], a: usize, ok: bool, v: u32)
 
 // Register a gets v if the check passed, in so many ticks.
 fn assign(
-    values: &mut [u32; 16],
+    values: &mut [u32; REGISTER_COUNT],
     context: Context,
     a: usize,
     ok: bool,
@@ -166,7 +168,7 @@ fn assign(
     pc: u32,
     clock: u32,
 ) -> Turn
-    requires { ⌜ (a < 16) × (ticks ≤ 10) × (pc < 2048) × (clock ≤ 16777216) ⌝ }
+    requires { ⌜ (a < registerCount) × (ticks ≤ 10) × (pc < mostWords) × (clock ≤ mostTicks) ⌝ }
     ensures { λ r. ⌜ Assigned (now (values .entry)) a ok v ticks pc clock (context .deadline) r (now (values .exit)) ⌝ }
 {
     if clock + ticks <= context.deadline {
@@ -178,7 +180,7 @@ fn assign(
 
 // Ops 2 to 8: register a gets v if their check passes.
 fn combine(
-    values: &mut [u32; 16],
+    values: &mut [u32; REGISTER_COUNT],
     context: Context,
     a: usize,
     la: u8,
@@ -189,7 +191,7 @@ fn combine(
     pc: u32,
     clock: u32,
 ) -> Turn
-    requires { ⌜ (a < 16) × (ticks ≤ 10) × (pc < 2048) × (clock ≤ 16777216) ⌝ }
+    requires { ⌜ (a < registerCount) × (ticks ≤ 10) × (pc < mostWords) × (clock ≤ mostTicks) ⌝ }
     ensures { λ r. ⌜ Assigned (now (values .entry)) a (flows (join (join (context .p) lb) lc) la) v ticks pc clock (context .deadline) r (now (values .exit)) ⌝ }
 {
     let ok = three_flow(context.p, lb, lc, la);
@@ -198,7 +200,7 @@ fn combine(
 
 // A branch or jump: it goes on at `target` if the check passed. In an upcall a failed check stops the loop.
 fn go(context: Context, ok: bool, target: u32, pc: u32, clock: u32) -> Turn
-    requires { ⌜ (pc < 2048) × (clock ≤ 16777216) ⌝ }
+    requires { ⌜ (pc < mostWords) × (clock ≤ mostTicks) ⌝ }
     ensures { λ r. ⌜ Gone ok target (context .up) pc clock (context .deadline) r ⌝ }
 {
     if ok {
@@ -218,7 +220,7 @@ fn go(context: Context, ok: bool, target: u32, pc: u32, clock: u32) -> Turn
 
 // Ops 11 and 12: on at n if the branch is taken, else at the next word.
 fn branch(context: Context, w: u32, la: u8, lb: u8, taken: bool, pc: u32, clock: u32) -> Turn
-    requires { ⌜ (pc < 2048) × (clock ≤ 16777216) ⌝ }
+    requires { ⌜ (pc < mostWords) × (clock ≤ mostTicks) ⌝ }
     ensures { λ r. ⌜ Gone (flows (join la lb) (context .p)) (cond taken (nField w) (pc + 1)) (context .up) pc clock (context .deadline) r ⌝ }
 {
     let ok = two_flow(la, lb, context.p);
@@ -228,7 +230,7 @@ fn branch(context: Context, w: u32, la: u8, lb: u8, taken: bool, pc: u32, clock:
 
 // Op 9: register a gets word x, where that is inside memory and the check passes.
 fn load(
-    values: &mut [u32; 16],
+    values: &mut [u32; REGISTER_COUNT],
     words: &[u32],
     marks: &[u8],
     context: Context,
@@ -239,8 +241,8 @@ fn load(
     pc: u32,
     clock: u32,
 ) -> Turn
-    requires { ⌜ (a < 16) × (context .size ≤ length (now words)) × (context .size ≤ length (now marks)) × (pc < 2048) × (clock ≤ 16777216) ⌝ }
-    ensures { λ r. ⌜ Loaded (now (values .entry)) (now (words .entry)) (now (marks .entry)) a x (context .p) lb la (context .size) pc clock (context .deadline) r (now (values .exit)) ⌝ }
+    requires { ⌜ (a < registerCount) × (context .size ≤ length (now words)) × (context .size ≤ length (now marks)) × (pc < mostWords) × (clock ≤ mostTicks) ⌝ }
+    ensures { λ r. ⌜ ReadWord (now (values .entry)) (now (words .entry)) (now (marks .entry)) a x (context .p) lb la (context .size) pc clock (context .deadline) r (now (values .exit)) ⌝ }
 {
     if x < context.size {
         let at = index(x);
@@ -276,7 +278,7 @@ fn store(
     pc: u32,
     clock: u32,
 ) -> Turn
-    requires { ⌜ (context .size ≤ length (now words)) × (context .size ≤ length (now marks)) × (pc < 2048) × (clock ≤ 16777216) ⌝ }
+    requires { ⌜ (context .size ≤ length (now words)) × (context .size ≤ length (now marks)) × (pc < mostWords) × (clock ≤ mostTicks) ⌝ }
     ensures { λ r. ⌜ Stored (now (words .entry)) (now (marks .entry)) x v (context .p) lb la (context .size) pc clock (context .deadline) r (now (words .exit)) ⌝ }
 {
     if clock + 3 <= context.deadline {
@@ -292,12 +294,12 @@ fn common(
     context: Context,
     pc: u32,
     clock: u32,
-    values: &mut [u32; 16],
-    labels: &[u8; 16],
+    values: &mut [u32; REGISTER_COUNT],
+    labels: &[u8; REGISTER_COUNT],
     words: &mut [u32],
     marks: &[u8],
 ) -> Turn
-    requires { ⌜ (context .size ≤ length (now words)) × (context .size ≤ length (now marks)) × (pc < context .size) × (pc < 2048) × (clock ≤ 16777216) ⌝ }
+    requires { ⌜ (context .size ≤ length (now words)) × (context .size ≤ length (now marks)) × (pc < context .size) × (pc < mostWords) × (clock ≤ mostTicks) ⌝ }
     ensures { λ r. ⌜ Common (context .size) (context .p) (context .t) (context .up) (context .deadline) pc clock (now (values .entry)) (now (labels .entry)) (now (words .entry)) (now (marks .entry)) w r (now (values .exit)) (now (words .exit)) ⌝ }
 {
     let a = a_of(w);
@@ -359,12 +361,12 @@ pub(in crate::steps) fn sprint(
     pc0: u32,
     clock0: u32,
     left0: u32,
-    values: &mut [u32; 16],
-    labels: &[u8; 16],
+    values: &mut [u32; REGISTER_COUNT],
+    labels: &[u8; REGISTER_COUNT],
     words: &mut [u32],
     marks: &[u8],
 ) -> Pause
-    requires { ⌜ (context .size ≤ length (now words)) × (context .size ≤ length (now marks)) × (context .size ≤ 2048) × (clock0 ≤ 16777216) × (context .deadline ≤ 16777216) ⌝ }
+    requires { ⌜ (context .size ≤ length (now words)) × (context .size ≤ length (now marks)) × (context .size ≤ mostWords) × (clock0 ≤ mostTicks) × (context .deadline ≤ mostTicks) ⌝ }
     ensures { λ r. ⌜ Sprinted (context .size) (context .p) (context .t) (context .up) (context .deadline) pc0 clock0 left0 (now (values .entry)) (now (labels .entry)) (now (words .entry)) (now (marks .entry)) r (now (values .exit)) (now (words .exit)) ⌝ }
 {
     let mut pc = pc0;

@@ -15,11 +15,12 @@ use model::Call;
 use model::Control;
 use model::Fixed;
 use model::Pair;
+use model::numbers::REGISTER_COUNT;
 ghost use Prim.Native.Nat.{_≤_};
 ghost use mathlib.Core.Path.{_≡_};
 ghost use Rattle.model.specs.Record.{isUpcall, endTickOf};
-ghost use Rattle.engine.specs.Common.{deadlineOf};
-ghost use Rattle.engine.specs.Drive.{contextOf, Fit, Driven, relabelsAt, endsAt};
+ghost use Rattle.engine.specs.Calls.{deadlineOf};
+ghost use Rattle.engine.specs.Inner.Drive.{contextOf, InRanges, Driven, relabelsAt, endsAt};
 
 // The op that relabels.
 const RELABEL: u32 = 16;
@@ -93,12 +94,12 @@ pub(in crate::steps) fn drive(
     start: Control,
     count: u32,
     once: bool,
-    values: &mut [u32; 16],
-    labels: &mut [u8; 16],
+    values: &mut [u32; REGISTER_COUNT],
+    labels: &mut [u8; REGISTER_COUNT],
     words: &mut [u32],
     marks: &[u8],
 ) -> Halted
-    requires { ⌜ Fit fixed start (now words) (now marks) ⌝ }
+    requires { ⌜ InRanges fixed start (now words) (now marks) ⌝ }
     ensures { λ r. ⌜ Driven fixed start count once (now (values .entry)) (now (labels .entry)) (now (words .entry)) (now (marks .entry)) r (now (values .exit)) (now (labels .exit)) (now (words .exit)) ⌝ }
 {
     let limit = fixed.limit;

@@ -17,17 +17,23 @@ use model::Call;
 use model::CallGate;
 use model::Fixed;
 use model::Pair;
+use model::numbers::MOST_GATES;
+use model::numbers::REGISTER_COUNT;
 ghost use Prim.Native.Nat.{_+_, _^_, _≤_, _<_};
 ghost use mathlib.Core.Path.{_≡_};
 ghost use mathlib.Core.Bool.{true, false, not, cond, _&&_};
 ghost use lib.Dec.{eqb};
 ghost use lib.ListN.{getD};
-ghost use Rattle.labels.specs.Label.{flows, join, meet, validPair, mayRaise, mayRelabel};
+ghost use Rattle.labels.specs.Label.{labelCount, flows, join, meet, validPair, mayRaise, mayRelabel};
+ghost use Rattle.model.specs.Numbers.{mostWords, mostTicks, mostGates, registerCount};
 ghost use Rattle.model.specs.Record.{isGate, pairOf, register};
 ghost use Rattle.model.specs.Word.{aField, bField, cField, dField};
 ghost use Rattle.model.specs.Ops.{write, goto, nothing, label, enter, openUpcall, openGate, closeGate, isLabel, noGate};
 ghost use Rattle.model.specs.Step.{close, stall, carry};
-ghost use Rattle.engine.specs.Rest.{decisionOf, allowed, gateAllowed, Acts, Held, Short, Timely, Rested, Other, Ready, Planned, Limited, Decided};
+ghost use Rattle.engine.specs.Inner.Rest.{decisionOf, allowed, gateAllowed, Acts, Held, Short, Timely, Rested, Other, Ready, Planned, Limited, Decided};
+
+// Labels are below this number.
+const LABEL_COUNT: u32 = 256;
 
 // What an op changes that is carried out.
 pub enum Act {
@@ -58,7 +64,7 @@ pub enum Verdict {
 
 // A value that is a label.
 fn byte(x: u32) -> u8
-    requires { ⌜ x < 256 ⌝ }
+    requires { ⌜ x < labelCount ⌝ }
     ensures { λ r. ⌜ r ≡ x ⌝ }
 {
     x as u8
@@ -67,7 +73,7 @@ fn byte(x: u32) -> u8
 fn may_raise(x: u32, la: u8, p: u8) -> bool
     ensures { λ r. ⌜ r ≡ (isLabel x && mayRaise p la x) ⌝ }
 {
-    if x < 256 {
+    if x < LABEL_COUNT {
         Label(la).may_raise(Label(byte(x)), Label(p))
     } else {
         false
@@ -77,7 +83,7 @@ fn may_raise(x: u32, la: u8, p: u8) -> bool
 fn may_relabel(x: u32, la: u8, p: u8) -> bool
     ensures { λ r. ⌜ r ≡ (isLabel x && mayRelabel p la x) ⌝ }
 {
-    if x < 256 {
+    if x < LABEL_COUNT {
         Label(la).may_relabel(Label(byte(x)), Label(p))
     } else {
         false
@@ -85,7 +91,7 @@ fn may_relabel(x: u32, la: u8, p: u8) -> bool
 }
 
 fn set_label(ok: bool, a: usize, x: u32, lb: u8, p: u8) -> Act
-    requires { ⌜ (ok ≡ true → x < 256) × (a < 16) ⌝ }
+    requires { ⌜ (ok ≡ true → x < labelCount) × (a < registerCount) ⌝ }
     ensures { λ r. ⌜ Acts (ok && flows lb p) (write (label (register a) x)) r ⌝ }
 {
     if ok {
@@ -97,7 +103,7 @@ fn set_label(ok: bool, a: usize, x: u32, lb: u8, p: u8) -> Act
 }
 
 // Op 15.
-fn raise(w: u32, p: u8, values: &[u32; 16], labels: &[u8; 16]) -> Act
+fn raise(w: u32, p: u8, values: &[u32; REGISTER_COUNT], labels: &[u8; REGISTER_COUNT]) -> Act
     ensures { λ r. ⌜ Acts ((isLabel (getD (now (values .entry)) (bField w) 0) && mayRaise p (getD (now (labels .entry)) (aField w) 0) (getD (now (values .entry)) (bField w) 0)) && flows (getD (now (labels .entry)) (bField w) 0) p) (write (label (register (aField w)) (getD (now (values .entry)) (bField w) 0))) r ⌝ }
 {
     let a = a_of(w);
@@ -107,7 +113,7 @@ fn raise(w: u32, p: u8, values: &[u32; 16], labels: &[u8; 16]) -> Act
 }
 
 // Op 16.
-fn relabel(w: u32, p: u8, values: &[u32; 16], labels: &[u8; 16]) -> Act
+fn relabel(w: u32, p: u8, values: &[u32; REGISTER_COUNT], labels: &[u8; REGISTER_COUNT]) -> Act
     ensures { λ r. ⌜ Acts ((isLabel (getD (now (values .entry)) (bField w) 0) && mayRelabel p (getD (now (labels .entry)) (aField w) 0) (getD (now (values .entry)) (bField w) 0)) && flows (getD (now (labels .entry)) (bField w) 0) p) (write (label (register (aField w)) (getD (now (values .entry)) (bField w) 0))) r ⌝ }
 {
     let a = a_of(w);
@@ -122,8 +128,8 @@ fn relabel(w: u32, p: u8, values: &[u32; 16], labels: &[u8; 16]) -> Act
 fn new_pair_allowed(x: u32, y: u32, lb: u8, lc: u8, p: u8) -> bool
     ensures { λ r. ⌜ r ≡ allowed x y lb lc p ⌝ }
 {
-    if x < 256 {
-        if y < 256 {
+    if x < LABEL_COUNT {
+        if y < LABEL_COUNT {
             return Label(byte(x)).is_valid_pair(Label(byte(y)))
                 & Label(lb).flows_to(Label(p))
                 & Label(lc).flows_to(Label(p));
@@ -133,7 +139,7 @@ fn new_pair_allowed(x: u32, y: u32, lb: u8, lc: u8, p: u8) -> bool
 }
 
 fn set_pair(ok: bool, x: u32, y: u32, p: u8, t: u8) -> Act
-    requires { ⌜ (ok ≡ true → (x < 256) × (y < 256)) ⌝ }
+    requires { ⌜ (ok ≡ true → (x < labelCount) × (y < labelCount)) ⌝ }
     ensures { λ r. ⌜ Acts (ok && flows p x && flows t y) (enter (record { pc = x; timing = y })) r ⌝ }
 {
     if ok {
@@ -147,7 +153,7 @@ fn set_pair(ok: bool, x: u32, y: u32, p: u8, t: u8) -> Act
 }
 
 // Op 17.
-fn enter(w: u32, p: u8, t: u8, values: &[u32; 16], labels: &[u8; 16]) -> Act
+fn enter(w: u32, p: u8, t: u8, values: &[u32; REGISTER_COUNT], labels: &[u8; REGISTER_COUNT]) -> Act
     ensures { λ r. ⌜ Acts (allowed (getD (now (values .entry)) (bField w) 0) (getD (now (values .entry)) (cField w) 0) (getD (now (labels .entry)) (bField w) 0) (getD (now (labels .entry)) (cField w) 0) p && flows p (getD (now (values .entry)) (bField w) 0) && flows t (getD (now (values .entry)) (cField w) 0)) (enter (record { pc = getD (now (values .entry)) (bField w) 0; timing = getD (now (values .entry)) (cField w) 0 })) r ⌝ }
 {
     let b = b_of(w);
@@ -179,7 +185,7 @@ fn open_upcall(
     back: u32,
     clock: u32,
 ) -> Act
-    requires { ⌜ (ok ≡ true → (x < 256) × (y < 256)) × (clock ≤ 16777216) ⌝ }
+    requires { ⌜ (ok ≡ true → (x < labelCount) × (y < labelCount)) × (clock ≤ mostTicks) ⌝ }
     ensures { λ r. ⌜ Acts (not up && ok && flows (join p t) x && flows la p && flows ld p) (openUpcall back (record { pc = x; timing = y }) (clock + 2 + length)) r ⌝ }
 {
     if up {
@@ -197,8 +203,16 @@ fn open_upcall(
 }
 
 // Op 18.
-fn upcall(w: u32, up: bool, p: u8, t: u8, clock: u32, values: &[u32; 16], labels: &[u8; 16]) -> Act
-    requires { ⌜ clock ≤ 16777216 ⌝ }
+fn upcall(
+    w: u32,
+    up: bool,
+    p: u8,
+    t: u8,
+    clock: u32,
+    values: &[u32; REGISTER_COUNT],
+    labels: &[u8; REGISTER_COUNT],
+) -> Act
+    requires { ⌜ clock ≤ mostTicks ⌝ }
     ensures { λ r. ⌜ Acts (not up && allowed (getD (now (values .entry)) (bField w) 0) (getD (now (values .entry)) (cField w) 0) (getD (now (labels .entry)) (bField w) 0) (getD (now (labels .entry)) (cField w) 0) p && flows (join p t) (getD (now (values .entry)) (bField w) 0) && flows (getD (now (labels .entry)) (aField w) 0) p && flows (getD (now (labels .entry)) (dField w) 0) p) (openUpcall (getD (now (values .entry)) (dField w) 0) (record { pc = getD (now (values .entry)) (bField w) 0; timing = getD (now (values .entry)) (cField w) 0 }) (clock + 2 + getD (now (values .entry)) (aField w) 0)) r ⌝ }
 {
     let a = a_of(w);
@@ -226,8 +240,15 @@ fn may_enter(q: u8, u: u8, lb: u8, p: u8) -> bool
 }
 
 // The gate call of gate number x.
-fn open_gate(x: u32, lb: u8, p: u8, call: Call, count: u32, gates: [CallGate; 8]) -> Act
-    requires { ⌜ count ≤ 8 ⌝ }
+fn open_gate(
+    x: u32,
+    lb: u8,
+    p: u8,
+    call: Call,
+    count: u32,
+    gates: [CallGate; MOST_GATES as usize],
+) -> Act
+    requires { ⌜ count ≤ mostGates ⌝ }
     ensures { λ r. ⌜ Acts (gateAllowed x lb p call count gates) (openGate (getD gates x noGate)) r ⌝ }
 {
     if is_empty(call) {
@@ -249,11 +270,11 @@ fn gate(
     p: u8,
     call: Call,
     count: u32,
-    gates: [CallGate; 8],
-    values: &[u32; 16],
-    labels: &[u8; 16],
+    gates: [CallGate; MOST_GATES as usize],
+    values: &[u32; REGISTER_COUNT],
+    labels: &[u8; REGISTER_COUNT],
 ) -> Act
-    requires { ⌜ count ≤ 8 ⌝ }
+    requires { ⌜ count ≤ mostGates ⌝ }
     ensures { λ r. ⌜ Acts (gateAllowed (getD (now (values .entry)) (bField w) 0) (getD (now (labels .entry)) (bField w) 0) p call count gates) (openGate (getD gates (getD (now (values .entry)) (bField w) 0) noGate)) r ⌝ }
 {
     let b = b_of(w);
@@ -324,11 +345,11 @@ fn rest(
     clock: u32,
     call: Call,
     count: u32,
-    gates: [CallGate; 8],
-    values: &[u32; 16],
-    labels: &[u8; 16],
+    gates: [CallGate; MOST_GATES as usize],
+    values: &[u32; REGISTER_COUNT],
+    labels: &[u8; REGISTER_COUNT],
 ) -> Verdict
-    requires { ⌜ Other w × (pc < 2048) × (clock ≤ 16777216) × (count ≤ 8) ⌝ }
+    requires { ⌜ Other w × (pc < mostWords) × (clock ≤ mostTicks) × (count ≤ mostGates) ⌝ }
     ensures { λ r. ⌜ Rested w pc errorpc p t clock call count gates (now (values .entry)) (now (labels .entry)) r ⌝ }
 {
     let up = is_upcall(call);
@@ -384,11 +405,11 @@ fn plan(
     clock: u32,
     call: Call,
     count: u32,
-    gates: [CallGate; 8],
-    values: &[u32; 16],
-    labels: &[u8; 16],
+    gates: [CallGate; MOST_GATES as usize],
+    values: &[u32; REGISTER_COUNT],
+    labels: &[u8; REGISTER_COUNT],
 ) -> Verdict
-    requires { ⌜ Ready stop pc × (clock ≤ 16777216) × (count ≤ 8) ⌝ }
+    requires { ⌜ Ready stop pc × (clock ≤ mostTicks) × (count ≤ mostGates) ⌝ }
     ensures { λ r. ⌜ Planned stop pc errorpc p t clock call count gates (now (values .entry)) (now (labels .entry)) r ⌝ }
 {
     match stop {
@@ -415,7 +436,7 @@ fn plan(
 
 // The verdict held against the limit: where it finishes beyond, or the limit is reached, the clock is spent.
 fn in_limit(d: Verdict, clock: u32, limit: u32, end: u64) -> Verdict
-    requires { ⌜ (clock ≤ limit) × (limit ≤ 16777216) × Short d ⌝ }
+    requires { ⌜ (clock ≤ limit) × (limit ≤ mostTicks) × Short d ⌝ }
     ensures { λ r. ⌜ Limited d clock limit end r ⌝ }
 {
     if clock == limit {
@@ -445,10 +466,10 @@ pub(in crate::steps) fn decide(
     pc: u32,
     clock: u32,
     call: Call,
-    values: &[u32; 16],
-    labels: &[u8; 16],
+    values: &[u32; REGISTER_COUNT],
+    labels: &[u8; REGISTER_COUNT],
 ) -> Verdict
-    requires { ⌜ Ready stop pc × (clock ≤ fixed .limit) × (fixed .limit ≤ 16777216) × (fixed .count ≤ 8) ⌝ }
+    requires { ⌜ Ready stop pc × (clock ≤ fixed .limit) × (fixed .limit ≤ mostTicks) × (fixed .count ≤ mostGates) ⌝ }
     ensures { λ r. ⌜ Decided stop pc (fixed .errorpc) (fixed .limit) (pair .pc) (pair .timing) clock call (fixed .count) (fixed .gates) (now (values .entry)) (now (labels .entry)) r ⌝ }
 {
     let gates = fixed.gates;

@@ -4,6 +4,7 @@ use Prim.Native.Nat.{ℕ, _-_, _+_, _*_}
 use native.Mathlib.Omega.{arith}
 use mathlib.Core.Path.{refl}
 use borrow.Author.Needs.{needs}
+use Rattle.model.specs.Numbers.{mostGates}
 use Rattle.encoder.specs.Places.{firstGate, gateSpan}
 use Rattle.decoder.specs.Held.{fixedIn, gateIn}
 use Rattle.decoder.proofs.Lists.{Filled, filled-none, filled-more, filled-all}
@@ -11,16 +12,16 @@ use Rattle.decoder.proofs.decode.gates_in.Statement.{statement}
 use Rattle.decoder.proofs.decode.gates_in.Tie as tie
 
 abbrev Inv-loop : tie.InvT-loop
-Inv-loop buffer gates₀ k₀ gates k = Filled (λ (j : ℕ). gateIn buffer (firstGate + gateSpan * j)) 8 gates k
+Inv-loop buffer gates₀ k₀ gates k = Filled (λ (j : ℕ). gateIn buffer (firstGate + gateSpan * j)) mostGates gates k
 
 abbrev μ-loop : tie.MeasureT-loop
-μ-loop buffer gates₀ k₀ gates k = 8 - k
+μ-loop buffer gates₀ k₀ gates k = mostGates - k
 
 gate-in-requires : tie.Need-gate-in-requires Inv-loop μ-loop
 gate-in-requires c κs = search needs
 
 loop-holds : tie.Need-loop-holds Inv-loop μ-loop
-loop-holds c = filled-none _ 8 _ refl
+loop-holds c = filled-none _ mostGates _ refl
 
 mul-gate-in : tie.Need-mul-gate-in Inv-loop μ-loop
 mul-gate-in c = omega arith

@@ -4,6 +4,7 @@ use mathlib.Core.Path.{refl, ap, _∙_}
 use Prim.Native.Nat.{ℕ, _-_, _+_}
 use native.Mathlib.Omega.{arith}
 use borrow.Author.Needs.{needs}
+use Rattle.model.specs.Numbers.{registerCount}
 use Rattle.encoder.specs.Places.{firstLabel}
 use Rattle.decoder.specs.Held.{registersIn, wordAt, low8}
 use Rattle.decoder.proofs.Lists.{Filled, filled-none, filled-more, filled-all}
@@ -11,13 +12,13 @@ use Rattle.decoder.proofs.decode.labels_in.Statement.{statement}
 use Rattle.decoder.proofs.decode.labels_in.Tie as tie
 
 abbrev Inv-loop : tie.InvT-loop
-Inv-loop buffer labels₀ k₀ labels k = Filled (λ (j : ℕ). low8 (wordAt buffer (firstLabel + j))) 16 labels k
+Inv-loop buffer labels₀ k₀ labels k = Filled (λ (j : ℕ). low8 (wordAt buffer (firstLabel + j))) registerCount labels k
 
 abbrev μ-loop : tie.MeasureT-loop
-μ-loop buffer labels₀ k₀ labels k = 16 - k
+μ-loop buffer labels₀ k₀ labels k = registerCount - k
 
 loop-holds : tie.Need-loop-holds Inv-loop μ-loop
-loop-holds c = filled-none _ 16 _ refl
+loop-holds c = filled-none _ registerCount _ refl
 
 add-word : tie.Need-add-word Inv-loop μ-loop
 add-word c = omega arith

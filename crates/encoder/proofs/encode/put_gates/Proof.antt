@@ -5,6 +5,7 @@ use native.Mathlib.Omega.{arith}
 use mathlib.Core.Path.{_≡_, refl}
 use lib.ListN.{length}
 use borrow.Author.Needs.{needs}
+use Rattle.model.specs.Numbers.{mostGates}
 use Rattle.model.specs.Ops.{noGate}
 use Rattle.encoder.specs.Places.{firstGate}
 use Rattle.encoder.specs.Layout.{gatesWords}
@@ -17,11 +18,11 @@ abbrev Inv-loop : tie.InvT-loop
 Inv-loop buffer₀ gates k₀ buffer k = Put gatesWords firstGate buffer₀ gates buffer k
 
 abbrev μ-loop : tie.MeasureT-loop
-μ-loop buffer₀ gates k₀ buffer k = 8 - k
+μ-loop buffer₀ gates k₀ buffer k = mostGates - k
 
 -- As the argument's type tells.
-eight : (c : tie.Start Inv-loop μ-loop) → length (c .args .t1) ≡ 8
-eight c = search needs
+all-gates : (c : tie.Start Inv-loop μ-loop) → length (c .args .t1) ≡ mostGates
+all-gates c = search needs
 
 loop-holds : tie.Need-loop-holds Inv-loop μ-loop
 loop-holds c = put-none firstGate _ _ gate-rows
@@ -51,7 +52,7 @@ loop-again : tie.Need-loop-again Inv-loop μ-loop
 unfolding gatesWords
 loop-again c =
     let head = c .before .before .before .before .before .before in
-    put-more noGate gate-rows (head .loop .inv) (omega (arith, eight (head .before .before))) refl
+    put-more noGate gate-rows (head .loop .inv) (omega (arith, all-gates (head .before .before))) refl
     (c .before .before .put-gate .ensures)
 
 same-length : tie.Need-same-length Inv-loop μ-loop
@@ -59,7 +60,7 @@ same-length c = put-length (c .before .loop .inv)
 
 returns : tie.Need-returns Inv-loop μ-loop
 returns c =
-    let all = eight (c .before .before .before) in
+    let all = all-gates (c .before .before .before) in
     (put-all (c .before .loop .inv) (omega arith), all)
 
 pub put-gates-spec : {M : Type 1} → statement M

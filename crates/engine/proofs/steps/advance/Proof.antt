@@ -2,8 +2,8 @@
 -- Assumes nothing.
 use mathlib.Core.Path.{sym, refl, _∙_}
 use borrow.Author.Needs.{needs}
-use Rattle.engine.specs.Drive.{Fit}
-use Rattle.engine.proofs.Driving.{fit-there, advanced-there}
+use Rattle.engine.specs.Inner.Drive.{InRanges}
+use Rattle.engine.proofs.Driving.{ranges-there, advanced-there}
 use Rattle.engine.proofs.steps.advance.Statement.{statement}
 use Rattle.engine.proofs.steps.advance.Tie as tie
 
@@ -12,7 +12,7 @@ is-fitting-requires c κs = search needs
 
 drive-requires : tie.Need-drive-requires
 drive-requires c κs =
-    fit-there (sym (c .before .before .before .before .is-fitting .ensures) ∙ c .before .before .before .if1 .taken)
+    ranges-there (sym (c .before .before .before .before .is-fitting .ensures) ∙ c .before .before .before .if1 .taken)
 
 same-length : tie.Need-same-length
 same-length c = search needs
@@ -22,7 +22,7 @@ returns c =
     let driven = c .before .before .before in
     let tested = driven .before .before .before .before in
     driven .drive .ensures .all refl
-    ∙ sym (advanced-there _ _ _ (fit-there (sym (tested .before .is-fitting .ensures) ∙ tested .if1 .taken)))
+    ∙ sym (advanced-there _ _ _ (ranges-there (sym (tested .before .is-fitting .ensures) ∙ tested .if1 .taken)))
 
 returns-2 : tie.Need-returns-2
 returns-2 c = rw (← c .before .is-fitting .ensures, c .if1 .left)

@@ -2,7 +2,7 @@
 -- Assumes nothing.
 use mathlib.Core.Path.{sym, refl, _∙_}
 use borrow.Author.Needs.{needs}
-use Rattle.engine.proofs.Driving.{fit-there, strode-there}
+use Rattle.engine.proofs.Driving.{ranges-there, strode-there}
 use Rattle.engine.proofs.steps.stride.Statement.{statement}
 use Rattle.engine.proofs.steps.stride.Tie as tie
 
@@ -11,7 +11,7 @@ is-fitting-requires c κs = search needs
 
 drive-requires : tie.Need-drive-requires
 drive-requires c κs =
-    fit-there (sym (c .before .before .before .before .is-fitting .ensures) ∙ c .before .before .before .if1 .taken)
+    ranges-there (sym (c .before .before .before .before .is-fitting .ensures) ∙ c .before .before .before .if1 .taken)
 
 same-length : tie.Need-same-length
 same-length c = search needs
@@ -21,7 +21,7 @@ returns c =
     let driven = c .before .before in
     let tested = driven .before .before .before .before in
     driven .drive .ensures .one refl
-    ∙ sym (strode-there _ _ _ (fit-there (sym (tested .before .is-fitting .ensures) ∙ tested .if1 .taken)))
+    ∙ sym (strode-there _ _ _ (ranges-there (sym (tested .before .is-fitting .ensures) ∙ tested .if1 .taken)))
 
 returns-2 : tie.Need-returns-2
 returns-2 c = rw (← c .before .is-fitting .ensures, c .if1 .left)

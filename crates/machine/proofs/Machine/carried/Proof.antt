@@ -4,7 +4,7 @@ use mathlib.Core.Path.{_∙_}
 use borrow.Author.Needs.{needs}
 use Rattle.machine.specs.Answered.{recordOf}
 use Rattle.engine.proofs.Driving.{advanced-there}
-use Rattle.machine.proofs.Whole.{clock-within, limit-within, fit-of, carried-of}
+use Rattle.machine.proofs.Whole.{clock-within, limit-within, ranges-of, carried-of}
 use Rattle.machine.proofs.Machine.carried.Statement.{statement}
 use Rattle.machine.proofs.Machine.carried.Tie as tie
 
@@ -21,7 +21,7 @@ same-length-2 : tie.Need-same-length-2
 same-length-2 c = search needs
 
 returns : tie.Need-returns
-returns c = carried-of (c .before .before .before .before .before .before .before .step-count .ensures) (c .before .before .advance .ensures ∙ advanced-there _ _ _ (fit-of (recordOf (c .before .before .before .before .before .before .before .before .before .before .before .before .before .before .args .self)) (c .before .before .before .before .before .before .before .before .before .before .before .before .before .before .pre .0) (c .before .before .before .before .before .before .before .before .before .before .before .before .before .before .pre .1) (c .before .before .before .before .before .before .before .before .before .before .before .before .before .before .pre .2)))
+returns c = carried-of (c .before .before .before .before .before .before .before .step-count .ensures) (c .before .before .advance .ensures ∙ advanced-there _ _ _ (ranges-of (recordOf (c .before .before .before .before .before .before .before .before .before .before .before .before .before .before .args .self)) (c .before .before .before .before .before .before .before .before .before .before .before .before .before .before .pre .0) (c .before .before .before .before .before .before .before .before .before .before .before .before .before .before .pre .1) (c .before .before .before .before .before .before .before .before .before .before .before .before .before .before .pre .2)))
 
 pub carried-spec : {M : Type 1} → statement M
 carried-spec =

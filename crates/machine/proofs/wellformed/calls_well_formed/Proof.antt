@@ -1,7 +1,7 @@
 -- `machine::wellformed::calls_well_formed` meets its contract.
 -- Assumes nothing.
 use borrow.Author.Needs.{needs}
-use Rattle.machine.specs.Answered.{controlAt}
+use Rattle.machine.specs.Inner.WellFormed.{controlAt}
 use Rattle.machine.proofs.Whole.{calls-empty, calls-gate, calls-upcall}
 use Rattle.machine.proofs.wellformed.calls_well_formed.Statement.{statement}
 use Rattle.machine.proofs.wellformed.calls_well_formed.Tie as tie

@@ -9,7 +9,7 @@ use borrow.Author.Needs.{needs}
 use Rattle.model.specs.Record.{valueAt, labelAt}
 use Rattle.model.specs.Word.{decode, compute}
 use Rattle.model.specs.Ops.{table}
-use Rattle.engine.specs.Common.{view}
+use Rattle.engine.specs.Inner.Common.{view}
 use Rattle.engine.specs.declared.steps.common.Stop.the-variants.{Rest}
 use Rattle.engine.proofs.Turns.{fetch-op, sets-turn, loads-turn, stores-turn, goes-turn, no-common, stays}
 use Rattle.engine.proofs.Numbers.{below-word}

@@ -2,7 +2,7 @@
 -- Assumes nothing.
 use borrow.Author.Tests.{le-leb, lt-leb}
 use borrow.Author.Needs.{needs}
-use Rattle.engine.specs.Common.{gone}
+use Rattle.engine.specs.Inner.Common.{gone}
 use Rattle.engine.proofs.steps.common.go.Statement.{statement}
 use Rattle.engine.proofs.steps.common.go.Tie as tie
 

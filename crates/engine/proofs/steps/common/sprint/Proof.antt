@@ -3,6 +3,7 @@
 use mathlib.Core.Path.{_∙_}
 use native.Mathlib.Omega.{arith}
 use borrow.Author.Needs.{needs}
+use Rattle.model.specs.Numbers.{mostTicks}
 use Rattle.engine.specs.declared.steps.common.Stop.the-variants.{Outside, Unreadable}
 use Rattle.engine.proofs.Loop.{Ran, ran-none, ran-more, ran-out, stopped, stopped-turn, outside, unreadable, readable}
 use Rattle.engine.proofs.steps.common.sprint.Statement.{statement}
@@ -42,7 +43,7 @@ slice-read-w : tie.Need-slice-read-w Inv-loop μ-loop
 slice-read-w c = omega (arith, c .before .before .before .before .before .before .before .before .before .before .before .pre, c .before .before .before .before .index .ensures, c .before .before .before .before .before .before .before .before .loop .inv .long)
 
 common-requires : tie.Need-common-requires Inv-loop μ-loop
-common-requires c κs = (omega (arith, c .before .before .before .before .before .before .before .before .before .before .before .before .before .pre, c .before .before .before .before .before .before .before .before .before .before .loop .inv .long), c .before .before .before .before .before .before .before .before .before .before .before .before .before .pre .1, c .before .before .before .before .before .before .before .if1 .left, omega (arith, c .before .before .before .before .before .before .before .before .before .before .before .before .before .pre), c .before .before .before .before .before .before .before .before .before .before .loop .inv .bounded 16777216 (c .before .before .before .before .before .before .before .before .before .before .before .before .before .pre .3) (c .before .before .before .before .before .before .before .before .before .before .before .before .before .pre .4))
+common-requires c κs = (omega (arith, c .before .before .before .before .before .before .before .before .before .before .before .before .before .pre, c .before .before .before .before .before .before .before .before .before .before .loop .inv .long), c .before .before .before .before .before .before .before .before .before .before .before .before .before .pre .1, c .before .before .before .before .before .before .before .if1 .left, omega (arith, c .before .before .before .before .before .before .before .before .before .before .before .before .before .pre), c .before .before .before .before .before .before .before .before .before .before .loop .inv .bounded mostTicks (c .before .before .before .before .before .before .before .before .before .before .before .before .before .pre .3) (c .before .before .before .before .before .before .before .before .before .before .before .before .before .pre .4))
 
 sub-left : tie.Need-sub-left Inv-loop μ-loop
 sub-left c = search needs

@@ -34,7 +34,7 @@ stopped c = c .before .before .before .before .before .before .before
 
 -- The clock where the hot loop has paused is within the limit.
 in-limit : (c : tie.After-sprint Inv-loop μ-loop) → c .sprint .result .clock ≤ started (tested (told c)) .args .fixed .limit
-in-limit c = c .sprint .ensures .bounded _ (tested (told c) .loop .inv .fit .clock) (told c .context-of .ensures .1)
+in-limit c = c .sprint .ensures .bounded _ (tested (told c) .loop .inv .ranges .clock) (told c .context-of .ensures .1)
 
 -- A step is left there.
 busy : (c : tie.Else2 Inv-loop μ-loop) → 0 < sprinted c .sprint .result .left
@@ -71,12 +71,12 @@ sprint-requires : tie.Need-sprint-requires Inv-loop μ-loop
 sprint-requires c κs =
     let at = c .before .before .before in
     let context = at .context-of .ensures in
-    let fit = tested at .loop .inv .fit in (
-      rw (context .0) (fit .words),
-      rw (context .0) (fit .marks),
-      rw (context .0) (fit .size),
-      omega (arith, fit),
-      omega (arith, fit, context .1),
+    let ranges = tested at .loop .inv .ranges in (
+      rw (context .0) (ranges .words),
+      rw (context .0) (ranges .marks),
+      rw (context .0) (ranges .size),
+      omega (arith, ranges),
+      omega (arith, ranges, context .1),
     )
 
 ends-at-requires : tie.Need-ends-at-requires Inv-loop μ-loop
@@ -110,8 +110,8 @@ decide-requires c κs =
       ready-there inv (at .before .before .before .if1 .left) (at .before .newest .ensures) (at .context-of .ensures .0)
           (paused .sprint .ensures) (busy here),
       in-limit paused,
-      inv .fit .limit,
-      inv .fit .gates,
+      inv .ranges .limit,
+      inv .ranges .gates,
     )
 
 write-back-requires : tie.Need-write-back-requires Inv-loop μ-loop
@@ -121,7 +121,7 @@ control-after-requires : tie.Need-control-after-requires Inv-loop μ-loop
 control-after-requires c κs =
     let decided = c .before .before .before in
     let at = told (sprinted (decided .before .before .before)) in
-    (decided-admits (decided .decide .ensures) (at .before .newest .ensures), tested at .loop .inv .fit .limit)
+    (decided-admits (decided .decide .ensures) (at .before .newest .ensures), tested at .loop .inv .ranges .limit)
 
 sub-left : tie.Need-sub-left Inv-loop μ-loop
 sub-left c = busy (stopped (c .before))

@@ -10,6 +10,7 @@ use lib.ListN.{getD}
 use Rattle.labels.specs.Label.{flows, validPair}
 use Rattle.model.specs.declared.CallGate.{CallGate}
 use Rattle.model.specs.declared.Call.{Call}
+use Rattle.model.specs.Numbers.{mostWords, registerCount}
 use Rattle.model.specs.Record.{State, register, isEmpty, newest, endTickOf}
 use Rattle.model.specs.Word.{opField, decode}
 use Rattle.model.specs.Ops.{nothing, label, Change, write, goto, enter, openUpcall, openGate, closeGate, stop, isLabel, noGate}
@@ -20,11 +21,7 @@ use Rattle.engine.specs.declared.steps.rest.Act.{Act}
 use Rattle.engine.specs.declared.steps.rest.Act.the-variants.{Pass, Goto, SetLabel, Enter, OpenUpcall, OpenGate, CloseGate, Halt}
 use Rattle.engine.specs.declared.steps.rest.Verdict.{Verdict}
 use Rattle.engine.specs.declared.steps.rest.Verdict.the-variants.{Spend, Stall, Close, Carry}
-use Rattle.engine.specs.Common.{Stopped}
-
--- The newest of the calls in the two places.
-abbrev pub newestOf : Call → Call → Call
-newestOf first second = cond (isEmpty second) first second
+use Rattle.engine.specs.Inner.Common.{Stopped}
 
 -- The model's change that an act is.
 abbrev pub changeOf : Act → Change
@@ -46,12 +43,12 @@ decisionOf (Carry ticks act) = carry ticks (changeOf act)
 
 -- What an act asks before it is carried out: a register number below 16, and a pc that has a next one.
 abbrev pub Writes : Act → ℕ → Type 0
-Writes Pass pc = pc < 2048
+Writes Pass pc = pc < mostWords
 Writes (Goto k) pc = Unit
-Writes (SetLabel a l) pc = (a < 16) × (pc < 2048)
-Writes (Enter q) pc = pc < 2048
-Writes (OpenUpcall k q e) pc = pc < 2048
-Writes (OpenGate k q) pc = pc < 2048
+Writes (SetLabel a l) pc = (a < registerCount) × (pc < mostWords)
+Writes (Enter q) pc = pc < mostWords
+Writes (OpenUpcall k q e) pc = pc < mostWords
+Writes (OpenGate k q) pc = pc < mostWords
 Writes CloseGate pc = Unit
 Writes Halt pc = Unit
 
@@ -79,7 +76,7 @@ Admits (Carry ticks act) pc clock limit e = (clock + ticks ≤ limit) × Writes 
 -- The act is this change where the check passed, and else nothing.
 pub record Acts (check : Bool) (change : Change) (r : Act) : Type 0 where
   pub is : changeOf r ≡ cond check change (write nothing)
-  pub writes : (pc : ℕ) → pc < 2048 → Writes r pc
+  pub writes : (pc : ℕ) → pc < mostWords → Writes r pc
 
 -- An act in so many ticks, or where that is past the end tick e of an upcall the close with cause 2.
 pub record Timely (up : Bool) (e clock ticks : ℕ) (act : Act) (r : Verdict) : Type 0 where
@@ -98,9 +95,9 @@ gateAllowed x lb p call count gates =
     let g = getD gates x noGate in
     isEmpty call && ltb x count && validPair (g .pair .pc) (g .pair .timing) && flows (g .pair .pc) p && flows (g .pair .timing) p && flows lb p
 
--- The state s with what the functions here are given in its place.
-abbrev pub seen : State → ℕ → ℕ → ℕ → List CallGate → ℕ → ℕ → ℕ → ℕ → List ℕ → List ℕ → State
-seen s errorpc limit count gates pc p t clock values labels =
+-- The state s where the hot loop stopped, with what the functions here are given in its place.
+abbrev pub stoppedAt : State → ℕ → ℕ → ℕ → List CallGate → ℕ → ℕ → ℕ → ℕ → List ℕ → List ℕ → State
+stoppedAt s errorpc limit count gates pc p t clock values labels =
     record {
       fixed = record { size = s .fixed .size; limit = limit; errorpc = errorpc; count = count; gates = gates };
       control =
@@ -120,14 +117,14 @@ Ready Late pc = Unit
 Ready Outside pc = Unit
 Ready Unreadable pc = Unit
 Ready Failed pc = Unit
-Ready (Rest w) pc = (pc < 2048) × Other w
+Ready (Rest w) pc = (pc < mostWords) × Other w
 
 -- The verdict at a fetched word is the model's plan.
 pub record Rested (w pc errorpc p t clock : ℕ) (call : Call) (count : ℕ) (gates : List CallGate) (values labels : List ℕ) (r : Verdict) : Type 0 where
   pub is :
       (s : State) (limit : ℕ) → newest (s .control) ≡ call
       → decisionOf r
-      ≡ plan (seen s errorpc limit count gates pc p t clock values labels) (known w (decode (opField w)))
+      ≡ plan (stoppedAt s errorpc limit count gates pc p t clock values labels) (known w (decode (opField w)))
   pub held : Held r pc
   pub short : Short r
 
@@ -135,9 +132,9 @@ pub record Rested (w pc errorpc p t clock : ℕ) (call : Call) (count : ℕ) (ga
 pub record Planned (stop : Stop) (pc errorpc p t clock : ℕ) (call : Call) (count : ℕ) (gates : List CallGate) (values labels : List ℕ) (r : Verdict) : Type 0 where
   pub is :
       (s : State) (limit : ℕ) → s .control .end ≡ 0 → newest (s .control) ≡ call
-      → Stopped stop (seen s errorpc limit count gates pc p t clock values labels)
-      → decide (seen s errorpc limit count gates pc p t clock values labels)
-      ≡ inLimit (seen s errorpc limit count gates pc p t clock values labels) (decisionOf r)
+      → Stopped stop (stoppedAt s errorpc limit count gates pc p t clock values labels)
+      → decide (stoppedAt s errorpc limit count gates pc p t clock values labels)
+      ≡ inLimit (stoppedAt s errorpc limit count gates pc p t clock values labels) (decisionOf r)
   pub held : Held r pc
   pub short : Short r
 
@@ -150,6 +147,6 @@ pub record Limited (d : Verdict) (clock limit e : ℕ) (r : Verdict) : Type 0 wh
 pub record Decided (stop : Stop) (pc errorpc limit p t clock : ℕ) (call : Call) (count : ℕ) (gates : List CallGate) (values labels : List ℕ) (r : Verdict) : Type 0 where
   pub is :
       (s : State) → s .control .end ≡ 0 → newest (s .control) ≡ call
-      → Stopped stop (seen s errorpc limit count gates pc p t clock values labels)
-      → decisionOf r ≡ decide (seen s errorpc limit count gates pc p t clock values labels)
+      → Stopped stop (stoppedAt s errorpc limit count gates pc p t clock values labels)
+      → decisionOf r ≡ decide (stoppedAt s errorpc limit count gates pc p t clock values labels)
   pub admits : Admits r pc clock limit (endTickOf call)

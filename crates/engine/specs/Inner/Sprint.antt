@@ -9,7 +9,7 @@ use Rattle.engine.specs.declared.steps.common.Stop.{Stop}
 use Rattle.engine.specs.declared.steps.common.Stop.the-variants.{Out, Late, Outside, Unreadable, Failed, Rest}
 use Rattle.engine.specs.declared.steps.common.Pause.{Pause}
 use Rattle.engine.specs.Skim.{skim}
-use Rattle.engine.specs.Common.{view, Timed, Stopped}
+use Rattle.engine.specs.Inner.Common.{view, Timed, Stopped}
 
 -- Why the loop paused in the state s with n steps left: none is left, or a reason to stop.
 abbrev pub Paused : Stop → ℕ → State → Type 0

@@ -15,6 +15,7 @@ use Rattle.engine.specs.declared.steps.common.Stop.{Stop}
 use Rattle.engine.specs.declared.steps.common.Stop.the-variants.{Out, Late, Outside, Unreadable, Failed, Rest}
 use Rattle.engine.specs.declared.steps.common.Turn.{Turn}
 use Rattle.engine.specs.Skim.{fetchesCommon, isCommon}
+use Rattle.engine.specs.Calls.{deadlineOf}
 
 -- ---- what the leaves answer
 
@@ -46,7 +47,7 @@ pub record Assigned (before : List ℕ) (a : ℕ) (ok : Bool) (v ticks pc clock 
   pub values : after ≡ cond (leb (clock + ticks) deadline) (cond ok (set before a v) before) before
 
 -- The same with word x, and the check of op 9.
-pub record Loaded (before words marks : List ℕ) (a x p lb la size pc clock deadline : ℕ) (r : Turn) (after : List ℕ) : Type 0 where
+pub record ReadWord (before words marks : List ℕ) (a x p lb la size pc clock deadline : ℕ) (r : Turn) (after : List ℕ) : Type 0 where
   pub turn : r ≡ timed 3 (pc + 1) pc clock deadline
   pub values :
       after ≡ cond (leb (clock + 3) deadline)
@@ -83,10 +84,6 @@ moving s pc clock values words =
       registers = record { values = values; labels = s .registers .labels };
       memory = record { values = words; labels = s .memory .labels };
     }
-
--- The tick by which a common op has to finish: the limit, or in an upcall its end tick if that is below the limit.
-abbrev pub deadlineOf : Bool → ℕ → ℕ → ℕ
-deadlineOf up e limit = cond up (cond (ltb e limit) e limit) limit
 
 -- The state runs, up says whether it is in an upcall, and the deadline is its deadline.
 pub record Timed (s : State) (up : Bool) (deadline : ℕ) : Type 0 where

@@ -1,0 +1,15 @@
+-- The newest of two open calls, and the tick by which a common op has to finish with it open.
+-- Assumes nothing.
+use Prim.Native.Nat.{ℕ}
+use mathlib.Core.Bool.{Bool, cond}
+use lib.Dec.{ltb}
+use Rattle.model.specs.declared.Call.{Call}
+use Rattle.model.specs.Record.{isEmpty}
+
+-- The newest of the calls in the two places.
+abbrev pub newestOf : Call → Call → Call
+newestOf first second = cond (isEmpty second) first second
+
+-- The tick by which a common op has to finish: the limit, or in an upcall its end tick if that is below the limit.
+abbrev pub deadlineOf : Bool → ℕ → ℕ → ℕ
+deadlineOf up e limit = cond up (cond (ltb e limit) e limit) limit
