@@ -17,10 +17,10 @@ ghost use mathlib.Core.Path.{_≡_};
 ghost use mathlib.Core.Bool.{cond};
 ghost use lib.Dec.{eqb};
 ghost use lib.ListN.{length, take};
-ghost use Rattle.model.specs.Record.{stateOf};
+ghost use Rattle.model.specs.Record.{stateOf, lent};
 ghost use Rattle.model.specs.Certificate.{certifying, certifyAlone};
 ghost use Rattle.engine.specs.Inner.Drive.{InRanges};
-ghost use Rattle.machine.specs.Answered.{recordOf, lent};
+ghost use Rattle.machine.specs.Answered.{recordOf};
 ghost use Rattle.certify.specs.Certified.{certificateOf, certifyingOf};
 ghost use Rattle.certify.specs.Inner.Watch.{firstWith, Watched};
 

@@ -7,7 +7,7 @@ use writer::write_line;
 ghost use Prim.Native.Nat.{_≤_};
 ghost use mathlib.Core.Path.{_≡_};
 ghost use lib.ListN.{length, take};
-ghost use Rattle.machine.specs.Answered.{lent};
+ghost use Rattle.model.specs.Record.{lent};
 ghost use Rattle.model.specs.Program.{fire, fireWhole, fireAlone};
 ghost use Rattle.writer.specs.Writing.{answer};
 ghost use Rattle.fire.specs.Fired.{fired, replied};

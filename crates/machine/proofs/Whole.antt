@@ -14,7 +14,7 @@ use Rattle.model.specs.declared.Control.{Control}
 use Rattle.model.specs.declared.Call.{Call}
 use Rattle.model.specs.declared.Call.the-variants.{Empty, Gate, Upcall}
 use Rattle.model.specs.Numbers.{mostWords, mostTicks, mostGates}
-use Rattle.model.specs.Record.{State, machineOf, isEmpty}
+use Rattle.model.specs.Record.{State, machineOf, isEmpty, lent}
 use Rattle.model.specs.Record as records
 use Rattle.model.specs.WellFormed.{isValid, fixedInRange, endInRange, upcallWellFormed, callsWellFormed, wellFormed, lentWhole}
 use Rattle.model.specs.Step.{step, steps, run}
@@ -22,7 +22,7 @@ use Rattle.model.specs.Answer.{answer}
 use Rattle.machine.specs.declared.Machine.{Machine}
 use Rattle.engine.specs.Advance.{stateFrom}
 use Rattle.engine.specs.Inner.Drive.{InRanges}
-use Rattle.machine.specs.Answered.{recordOf, answered, lent}
+use Rattle.machine.specs.Answered.{recordOf, answered}
 use Rattle.machine.specs.Inner.Carried.{stepped, Carried}
 use Rattle.machine.specs.Inner.WellFormed.{overGate}
 

@@ -3,7 +3,7 @@
 -- Assumes nothing.
 use Prim.Native.Nat.{ℕ}
 use mathlib.Core.List.{List}
-use Rattle.model.specs.Record.{Bank}
+use Rattle.model.specs.Record.{lent}
 use Rattle.model.specs.Record as record-of
 use Rattle.model.specs.Answer as model
 use Rattle.machine.specs.declared.Machine.{Machine}
@@ -12,10 +12,6 @@ use Rattle.machine.specs.declared.Answer.{Answer}
 -- The record that a machine's struct is. It forgets nothing: proofs/Faithful.antt.
 abbrev pub recordOf : Machine → record-of.Machine
 recordOf m = record { fixed = m .fixed; control = m .control; registers = record { values = m .values; labels = m .labels } }
-
--- Lent words and label bytes.
-abbrev pub lent : List ℕ → List ℕ → Bank
-lent words labels = record { values = words; labels = labels }
 
 -- An answer with the lent memory at exit.
 abbrev pub answered : Answer → List ℕ → List ℕ → model.Answer

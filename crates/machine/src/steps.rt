@@ -12,7 +12,8 @@ ghost use lib.ListN.{length};
 ghost use Rattle.model.specs.Numbers.{mostTicks};
 ghost use Rattle.model.specs.WellFormed.{wellFormed};
 ghost use Rattle.model.specs.Answer.{answer, stepAnswer, runAnswer};
-ghost use Rattle.machine.specs.Answered.{recordOf, answered, lent};
+ghost use Rattle.model.specs.Record.{lent};
+ghost use Rattle.machine.specs.Answered.{recordOf, answered};
 ghost use Rattle.machine.specs.Inner.Carried.{stepped, Carried};
 
 // A size as a length.

@@ -2,9 +2,11 @@
 //! sides, so that a byte touched beyond shows.
 
 use crate::calls::Calls;
+use crate::certificate;
 use crate::layout::{word_name, SPAN};
 use interpreter::generator::random::Random;
 use interpreter::machine::MAX_SIZE;
+use interpreter::Label;
 use std::ops::Range;
 
 /// So many elements lie around what is lent.
@@ -58,13 +60,15 @@ impl<T: Copy + PartialEq + Into<u64>> Buffer<T> {
     }
 }
 
-/// All that step, run and print are lent, and load besides its text.
+/// All that step, run and print are lent, and load and certify besides their
+/// text.
 #[derive(Clone, Debug, PartialEq, Eq)]
 pub struct Lent {
     pub record: Buffer<u64>,
     pub words: Buffer<u32>,
     pub labels: Buffer<u8>,
     pub output: Buffer<u8>,
+    pub certificate: Buffer<u64>,
 }
 
 impl Lent {
@@ -75,16 +79,19 @@ impl Lent {
             words: Buffer::around(&[0; MAX_SIZE as usize], 0),
             labels: Buffer::around(&[0; MAX_SIZE as usize], 0),
             output: Buffer::around(&[0; 65_536], 0),
+            certificate: Buffer::around(&[0; certificate::SPAN], 0),
         }
     }
 
-    /// The record and just its memory; the margins hold what comes.
+    /// The record and just its memory; the margins hold what comes, but for that
+    /// of the certificate, which is lent by those who certify.
     pub fn of(random: &mut Random, record: &[u64], words: &[u32], labels: &[u8]) -> Lent {
         Lent {
             record: Buffer::around(record, u64::from(random.bits())),
             words: Buffer::around(words, random.bits()),
             labels: Buffer::around(labels, random.bits() as u8),
             output: Buffer::around(&[], random.bits() as u8),
+            certificate: Buffer::around(&[], 0),
         }
     }
 
@@ -95,6 +102,7 @@ impl Lent {
             ("words", self.words.differs(&other.words)),
             ("labels", self.labels.differs(&other.labels)),
             ("output", self.output.differs(&other.output)),
+            ("certificate", self.certificate.differs(&other.certificate)),
         ];
         let (buffer, place, one, two) = buffers
             .into_iter()
@@ -122,7 +130,12 @@ impl Lent {
     }
 
     pub fn print(&mut self, calls: &dyn Calls) -> u64 {
-        let Lent { record, words, labels, output } = self;
+        let Lent { record, words, labels, output, .. } = self;
         calls.print(record.get(), words.get(), labels.get(), output.get_mut())
+    }
+
+    pub fn certify(&mut self, calls: &dyn Calls, level: Label, text: &[u8]) -> u64 {
+        let Lent { words, labels, certificate, .. } = self;
+        calls.certify(level.0, text, words.get_mut(), labels.get_mut(), certificate.get_mut())
     }
 }

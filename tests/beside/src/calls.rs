@@ -1,4 +1,4 @@
-//! The four calls over plain buffers, for the library and the interpreter alike,
+//! The five calls over plain buffers, for the library and the interpreter alike,
 //! and their answers.
 
 use interpreter::NOT_FIT;
@@ -9,12 +9,21 @@ pub trait Calls {
     fn step(&self, record: &mut [u64], words: &mut [u32], labels: &mut [u8]) -> u64;
     fn run(&self, record: &mut [u64], words: &mut [u32], labels: &mut [u8]) -> u64;
     fn print(&self, record: &[u64], words: &[u32], labels: &[u8], output: &mut [u8]) -> u64;
+    fn certify(
+        &self,
+        label: u8,
+        text: &[u8],
+        words: &mut [u32],
+        labels: &mut [u8],
+        certificate: &mut [u64],
+    ) -> u64;
 }
 
 /// "the record is not well-formed, or the buffer holds none"
 pub const NO_RECORD: u64 = NOT_FIT as u64;
 
-/// "the record's buffer is shorter than JENNYDUSK_SPAN"
+/// "the record's buffer is shorter than JENNYDUSK_SPAN, or the certificate's than
+/// JENNYDUSK_CERTIFICATE_SPAN"
 pub const SHORT_BUFFER: u64 = 255;
 
 /// "answers: a number, with a line or a length above it"

@@ -1,9 +1,10 @@
 //! The library beside the interpreter.
 //!
 //! The library is called through its C functions, the interpreter through the
-//! same buffers. Three programs compare them: `listings` on generated images,
+//! same buffers. Four programs compare them: `listings` on generated images,
 //! `calls` on records and memory that no load gives, `pairs` on pairs of
-//! machines that differ in their secrets.
+//! machines that differ in their secrets, `certificates` on pairs of which one
+//! is certified.
 
 #![deny(unsafe_code)]
 
@@ -11,6 +12,7 @@ pub mod bases;
 pub mod breaks;
 pub mod buffers;
 pub mod calls;
+pub mod certificate;
 pub mod edges;
 pub mod layout;
 pub mod library;

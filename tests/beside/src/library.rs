@@ -1,5 +1,6 @@
-//! The library's C functions over a record, as `include/jennydusk.h` declares
-//! them. This is the only module with unsafe code, and the calls are all of it.
+//! The library's C functions over a record, and the one that certifies, as
+//! `include/jennydusk.h` declares them. This is the only module with unsafe
+//! code, and the calls are all of it.
 
 #![allow(unsafe_code)]
 
@@ -12,6 +13,7 @@ unsafe extern "C" {
     fn jennydusk_step(record: *mut u64, record_length: usize, words: *mut u32, words_length: usize, labels: *mut u8, labels_length: usize) -> u64;
     fn jennydusk_run(record: *mut u64, record_length: usize, words: *mut u32, words_length: usize, labels: *mut u8, labels_length: usize) -> u64;
     fn jennydusk_print(record: *const u64, record_length: usize, words: *const u32, words_length: usize, labels: *const u8, labels_length: usize, output: *mut u8, output_length: usize) -> u64;
+    fn jennydusk_certify(label: u8, text: *const u8, text_length: usize, words: *mut u32, words_length: usize, labels: *mut u8, labels_length: usize, certificate: *mut u64, certificate_length: usize) -> u64;
 }
 
 /// The compiled library. In each call every pointer is that of a slice of the
@@ -34,5 +36,9 @@ impl Calls for Library {
 
     fn print(&self, record: &[u64], words: &[u32], labels: &[u8], output: &mut [u8]) -> u64 {
         unsafe { jennydusk_print(record.as_ptr(), record.len(), words.as_ptr(), words.len(), labels.as_ptr(), labels.len(), output.as_mut_ptr(), output.len()) }
+    }
+
+    fn certify(&self, label: u8, text: &[u8], words: &mut [u32], labels: &mut [u8], certificate: &mut [u64]) -> u64 {
+        unsafe { jennydusk_certify(label, text.as_ptr(), text.len(), words.as_mut_ptr(), words.len(), labels.as_mut_ptr(), labels.len(), certificate.as_mut_ptr(), certificate.len()) }
     }
 }

@@ -1,45 +1,103 @@
-//! Trials of load: good and damaged texts into record buffers and memory of
-//! every length, and many files one after the other into the same buffers.
+//! Trials of load and certify: good and damaged texts into memory and record or
+//! certificate buffers of every length, and many files one after the other into
+//! the same buffers.
 
 use crate::bases::LONGEST;
 use crate::buffers::Lent;
 use crate::calls::{answer, Calls, SHORT_BUFFER};
+use crate::certificate;
 use crate::layout::{at, SPAN};
 use crate::trials::{Call, Due, Trials, LENDINGS};
 use interpreter::generator::census::Census;
 use interpreter::generator::compose::compose;
 use interpreter::generator::damage::{damage, PLANS};
 use interpreter::generator::random::Random;
+use interpreter::Label;
 
-/// How long a record's buffer is, by name.
-const RECORDS: [(&str, usize); 4] = [
-    ("just the record", SPAN),
-    ("a longer record", SPAN + 2),
-    ("a record short by one", SPAN - 1),
-    ("no record", 0),
-];
+/// A call that loads a text and has a buffer to write into: load its record's,
+/// certify its certificate's.
+#[derive(Clone, Copy)]
+pub struct Loading {
+    call: &'static str,
+    buffer: &'static str,
+    span: usize,
+}
 
-/// The orders between two refusals that a load can show and the program can't,
-/// for it always lends enough.
+pub const LOAD: Loading = Loading { call: "load", buffer: "record", span: SPAN };
+pub const CERTIFY: Loading =
+    Loading { call: "certify", buffer: "certificate", span: certificate::SPAN };
+
+/// The orders between two refusals that such a call can show and the program
+/// can't, for it always lends enough.
 const ORDERS: [&str; 9] = [
-    "load, 1 before 6",
-    "load, 2 before 6",
-    "load, 3 before 6",
-    "load, 5 before 6",
-    "load, 6 before 2",
-    "load, 6 before 3",
-    "load, 6 before 4",
-    "load, 255 before 6",
-    "load, 255 before the text",
+    "1 before 6",
+    "2 before 6",
+    "3 before 6",
+    "5 before 6",
+    "6 before 2",
+    "6 before 3",
+    "6 before 4",
+    "255 before 6",
+    "255 before the text",
 ];
 
-/// All that must come up.
-pub fn expected() -> Vec<String> {
-    let mut names: Vec<String> = ORDERS.map(str::to_string).to_vec();
-    names.extend(LENDINGS.iter().map(|lending| format!("load, {}", lending.name)));
-    names.extend(RECORDS.iter().map(|(name, _)| format!("load, {name}")));
-    names.extend((0..7).chain([SHORT_BUFFER]).map(|number| format!("load, answer {number}")));
-    names
+impl Loading {
+    /// A kind of trial, with the call's name.
+    fn kind(self, what: &str) -> String {
+        format!("{}, {what}", self.call)
+    }
+
+    /// How long its buffer is, by name.
+    fn lengths(self) -> [(String, usize); 4] {
+        let Loading { buffer, span, .. } = self;
+        [
+            (format!("just the {buffer}"), span),
+            (format!("a longer {buffer}"), span + 2),
+            (format!("a {buffer} short by one"), span - 1),
+            (format!("no {buffer}"), 0),
+        ]
+    }
+
+    /// All that must come up.
+    pub fn expected(self) -> Vec<String> {
+        let mut names: Vec<String> = ORDERS.map(|order| self.kind(order)).to_vec();
+        names.extend(LENDINGS.iter().map(|lending| self.kind(lending.name)));
+        names.extend(self.lengths().iter().map(|(name, _)| self.kind(name)));
+        let numbers = (0..7).chain([SHORT_BUFFER]);
+        names.extend(numbers.map(|number| self.kind(&format!("answer {number}"))));
+        names
+    }
+
+    /// Buffers of some lengths for a text, and the answer that is due. Refusals
+    /// 1, and 2, 3 and 5 of the first line come before 6, which comes before
+    /// those of later lines; a short buffer before them all.
+    fn lend(self, trials: &mut Trials, random: &mut Random, text: &Text) -> (Lent, u64) {
+        let size = size_of(&text.bytes);
+        let (length_name, length) = &self.lengths()[random.weighted(&[12, 4, 2, 1])];
+        let lending = if random.chance(40) { LENDINGS[0] } else { random.pick(&LENDINGS) };
+        let mut lent = dirty(random, *length, size);
+        lending.apply(random, &mut lent, size);
+        let is_early = text.number > 0 && text.line <= 1;
+        let (due, line) = match (*length < self.span, lending.is_short()) {
+            (true, _) => (SHORT_BUFFER, 0),
+            (false, true) if !is_early => (6, 1),
+            _ => (text.number, text.line),
+        };
+        let tally = &mut trials.tally;
+        tally.count(&self.kind(length_name));
+        tally.count(&self.kind(lending.name));
+        tally.count(&self.kind(&format!("answer {due}")));
+        let short_buffer = due == SHORT_BUFFER;
+        tally.count_if(short_buffer && lending.is_short(), &self.kind("255 before 6"));
+        tally.count_if(short_buffer && text.number > 0, &self.kind("255 before the text"));
+        if due != text.number && due == 6 && text.number > 0 {
+            tally.count(&self.kind(&format!("6 before {}", text.number)));
+        }
+        if due == text.number && lending.is_short() {
+            tally.count(&self.kind(&format!("{due} before 6")));
+        }
+        (lent, answer(due, line))
+    }
 }
 
 /// A text with the refusal, number and line, that it gets in memory of enough
@@ -71,44 +129,35 @@ fn size_of(text: &[u8]) -> usize {
         .unwrap_or(8)
 }
 
-/// Buffers with what an earlier use has left in them.
-fn dirty(random: &mut Random, record: usize, size: usize) -> Lent {
-    let record: Vec<u64> = (0..record).map(|_| random.bits().into()).collect();
+/// Buffers with what an earlier use has left in them: a record's and a
+/// certificate's of this length, and memory.
+fn dirty(random: &mut Random, length: usize, size: usize) -> Lent {
+    let buffer: Vec<u64> = (0..length).map(|_| random.bits().into()).collect();
     let words: Vec<u32> = (0..size).map(|_| random.bits()).collect();
     let labels: Vec<u8> = (0..size).map(|_| random.bits() as u8).collect();
-    Lent::of(random, &record, &words, &labels)
+    let mut lent = Lent::of(random, &buffer, &words, &labels);
+    lent.certificate = lent.record.clone();
+    lent
 }
 
-/// One load. Refusals 1, and 2, 3 and 5 of the first line come before 6, which
-/// comes before those of later lines; a short buffer before them all.
+/// One load.
 pub fn try_load(trials: &mut Trials, random: &mut Random, turn: usize) {
     let text = text(random, turn);
-    let size = size_of(&text.bytes);
-    let (record_name, record) = RECORDS[random.weighted(&[12, 4, 2, 1])];
-    let lending = if random.chance(40) { LENDINGS[0] } else { random.pick(&LENDINGS) };
-    let mut lent = dirty(random, record, size);
-    lending.apply(random, &mut lent, size);
-    let is_early = text.number > 0 && text.line <= 1;
-    let (due, line) = match (record < SPAN, lending.is_short()) {
-        (true, _) => (SHORT_BUFFER, 0),
-        (false, true) if !is_early => (6, 1),
-        _ => (text.number, text.line),
-    };
-    let tally = &mut trials.tally;
-    tally.count(&format!("load, {record_name}"));
-    tally.count(&format!("load, {}", lending.name));
-    tally.count(&format!("load, answer {due}"));
-    tally.count_if(due == SHORT_BUFFER && lending.is_short(), "load, 255 before 6");
-    tally.count_if(due == SHORT_BUFFER && text.number > 0, "load, 255 before the text");
-    if due != text.number && due == 6 && text.number > 0 {
-        tally.count(&format!("load, 6 before {}", text.number));
-    }
-    if due == text.number && lending.is_short() {
-        tally.count(&format!("load, {due} before 6"));
-    }
+    let (lent, due) = LOAD.lend(trials, random, &text);
     let name = format!("load of\n{}", String::from_utf8_lossy(&text.bytes));
     let make = |calls: &dyn Calls, lent: &mut Lent| lent.load(calls, &text.bytes);
-    trials.compare(&name, make, &lent, Due::Answer(answer(due, line)));
+    trials.compare(&name, make, &lent, Due::Answer(due));
+}
+
+/// One certificate, at any label: its cause, where the text is not refused.
+pub fn try_certify(trials: &mut Trials, random: &mut Random, turn: usize) -> Option<u64> {
+    let text = text(random, turn);
+    let (lent, due) = CERTIFY.lend(trials, random, &text);
+    let level = Label(random.bits() as u8);
+    let name = format!("certify at {} of\n{}", level.0, String::from_utf8_lossy(&text.bytes));
+    let make = |calls: &dyn Calls, lent: &mut Lent| lent.certify(calls, level, &text.bytes);
+    let left = trials.compare(&name, make, &lent, Due::Answer(due));
+    (due == 0).then(|| left.certificate.get()[certificate::at::CAUSE])
 }
 
 /// One cabinet, many files: each is loaded, stepped, run and printed in the

@@ -2,16 +2,17 @@
 //! buffer, and written back where the call is carried out.
 
 use crate::calls::{answer, Calls, NO_RECORD, SHORT_BUFFER};
+use crate::certificate;
 use crate::layout::{at, read, words_of, SPAN};
 use interpreter::machine::MAX_GATES;
-use interpreter::{load, print, Machine};
+use interpreter::{load, print, Label, Machine};
 
 /// The interpreter in Rust.
 pub struct Other;
 
-/// The record of a buffer, or the refusal. "Each of the four answers
-/// JENNYDUSK_SHORT_BUFFER where the record's buffer is too short, before it
-/// reads anything."
+/// The record of a buffer, or the refusal. "Each of the five answers
+/// JENNYDUSK_SHORT_BUFFER where the buffer of the record or the certificate is
+/// too short, before it reads anything."
 fn record_in(buffer: &[u64]) -> Result<Machine, u64> {
     if buffer.len() < SPAN {
         return Err(SHORT_BUFFER);
@@ -20,7 +21,7 @@ fn record_in(buffer: &[u64]) -> Result<Machine, u64> {
 }
 
 /// Carries a call out on the record of a buffer. "A refused call leaves the
-/// record, words, labels and output as they were."
+/// record, certificate, words, labels and output as they were."
 fn change(record: &mut [u64], call: impl FnOnce(&mut Machine) -> Result<(), u8>) -> u64 {
     let mut machine = match record_in(record) {
         Ok(machine) => machine,
@@ -72,5 +73,28 @@ impl Calls for Other {
             Ok(length) => answer(0, length as u64),
             Err(number) => number.into(),
         }
+    }
+
+    /// "Certifies a text at one label: loads it, and runs it to its end. The
+    /// certificate goes to its buffer; words and labels hold what the run leaves.
+    /// Answers a number, 0 to 6 or 255, and 256 times the line that was refused."
+    fn certify(
+        &self,
+        label: u8,
+        text: &[u8],
+        words: &mut [u32],
+        labels: &mut [u8],
+        certificate: &mut [u64],
+    ) -> u64 {
+        if certificate.len() < certificate::SPAN {
+            return SHORT_BUFFER;
+        }
+        let mut machine = match load(text, words, labels) {
+            Ok(machine) => machine,
+            Err(refusal) => return answer(refusal.number.into(), refusal.line.into()),
+        };
+        let found = machine.certify(Label(label), words, labels).expect("a loaded record is fit");
+        certificate[..certificate::SPAN].copy_from_slice(&certificate::words_of(found));
+        0
     }
 }

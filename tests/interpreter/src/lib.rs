@@ -6,6 +6,7 @@
 
 #![forbid(unsafe_code)]
 
+pub mod certificate;
 pub mod draft;
 pub mod fire;
 pub mod generator;
@@ -18,6 +19,7 @@ mod ops;
 pub mod print;
 pub mod step;
 
+pub use certificate::Certificate;
 pub use fire::fire;
 pub use label::{Label, Pair};
 pub use load::{load, Refusal};

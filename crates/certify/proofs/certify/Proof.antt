@@ -2,7 +2,7 @@
 -- Assumes nothing.
 use mathlib.Core.Path.{ap}
 use borrow.Author.Needs.{needs}
-use Rattle.machine.specs.Answered.{lent}
+use Rattle.model.specs.Record.{lent}
 use Rattle.causes.specs.Causes.{isDone}
 use Rattle.certify.proofs.Answer.{loaded-fit, certified-refused, certified-done}
 use Rattle.certify.proofs.certify.Statement.{statement}

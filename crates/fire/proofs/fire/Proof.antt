@@ -3,7 +3,7 @@
 use mathlib.Core.Path.{refl, ap, _∙_}
 use borrow.Author.Needs.{needs}
 use Rattle.causes.specs.Causes.{isDone}
-use Rattle.machine.specs.Answered.{lent}
+use Rattle.model.specs.Record.{lent}
 use Rattle.writer.specs.Writing.{answer}
 use Rattle.fire.proofs.Laws.{refused-firing, accepted-firing}
 use Rattle.fire.proofs.fire.Statement.{statement}

@@ -2,7 +2,7 @@
 -- Assumes nothing.
 use mathlib.Core.Path.{_∙_}
 use borrow.Author.Needs.{needs}
-use Rattle.machine.specs.Answered.{lent}
+use Rattle.model.specs.Record.{lent}
 use Rattle.texts.proofs.Buffer.{whole-reply, whole-counts}
 use Rattle.fire.proofs.fire_whole.Statement.{statement}
 use Rattle.fire.proofs.fire_whole.Tie as tie

@@ -4,10 +4,10 @@ use Prim.Native.Nat.{ℕ}
 use mathlib.Core.Path.{_≡_}
 use mathlib.Core.Bool.{Bool, true, false}
 use mathlib.Core.List.{List}
-use Rattle.model.specs.Record.{State, machineOf, stateOf}
+use Rattle.model.specs.Record.{State, machineOf, stateOf, lent}
 use Rattle.model.specs.Step.{step, run}
 use Rattle.machine.specs.declared.Machine.{Machine}
-use Rattle.machine.specs.Answered.{recordOf, lent}
+use Rattle.machine.specs.Answered.{recordOf}
 
 -- One step, or the run.
 abbrev pub stepped : Bool → State → State

@@ -12,7 +12,7 @@ use beside::calls::{count, number, Calls, NO_RECORD, SHORT_BUFFER};
 use beside::edges::edges;
 use beside::layout::words_of;
 use beside::library::Library;
-use beside::loads::{self, try_cabinet, try_load};
+use beside::loads::{try_cabinet, try_load, LOAD};
 use beside::no_records::{no_records, SHORT_BUFFERS};
 use beside::other::Other;
 use beside::random_records::change;
@@ -57,7 +57,7 @@ fn main() -> ExitCode {
 /// Every way, for every call; every length of memory and of output; and every
 /// order between two refusals.
 fn expected() -> Vec<String> {
-    let mut names = loads::expected();
+    let mut names = LOAD.expected();
     let ways = breaks().map(|way| way.name).chain(no_records().map(|way| way.name));
     let ways = ways.chain(SHORT_BUFFERS.iter().map(|way| way.name));
     let records: Vec<&str> = ways.chain(edges().map(|edge| edge.name)).collect();

@@ -5,6 +5,7 @@
 //! every tick that both have reached they must be alike, as long as the three
 //! provisos hold in both.
 
+pub mod certified;
 pub mod check;
 pub mod hidden;
 pub mod make;

@@ -1,0 +1,222 @@
+//! `certificates [SEED [COUNT [library|interpreter]]]` certifies one machine of
+//! each of COUNT pairs and compares the other with it up to the first break,
+//! through the library's calls or the interpreter's; and the library's
+//! certificates of COUNT texts with the interpreter's. It prints what was met;
+//! the last line is 'N passed, M failed'.
+
+#![forbid(unsafe_code)]
+
+use beside::calls::Calls;
+use beside::library::Library;
+use beside::loads::{try_certify, CERTIFY};
+use beside::other::Other;
+use beside::pairs::certified::{broken_under, certificate_of, uncovered};
+use beside::pairs::check::{compare, unreached};
+use beside::pairs::hidden::{came, Came};
+use beside::pairs::make::Pair;
+use beside::pairs::provisos::{both, bounds, Bounds};
+use beside::pairs::trace::{trace, Trace};
+use beside::tally::Tally;
+use beside::trials::Trials;
+use beside::verdict::close;
+use interpreter::certificate::cause;
+use interpreter::generator::random::Random;
+use interpreter::{Certificate, Label};
+use std::env;
+use std::process::ExitCode;
+
+/// Differences are shown up to this number.
+const SHOWN: u64 = 3;
+
+/// The causes, by number.
+const CAUSES: [&str; 4] =
+    ["no break", "an attempt to release", "a state at large", "a state timed from outside"];
+
+/// How far a pair that is certified to the end came with a hidden upcall.
+const CAME: [(Came, &str); 3] = [
+    (Came::Back, "certified to the end: pairs through a hidden upcall and back"),
+    (Came::BackByDifferentRuns, "certified to the end: pairs through it by different hidden runs"),
+    (
+        Came::BackToWrites,
+        "certified to the end: pairs through it by different hidden runs, back to visible writes",
+    ),
+];
+
+/// What must come up besides.
+const EXPECTED: [&str; 8] = [
+    "pairs",
+    "ticks compared",
+    "certified to the end: pairs hidden at the start",
+    "certified to the end: pairs alike to the last tick though their ends differ",
+    "broken: pairs at the loaded state",
+    "broken: pairs after a hidden upcall by different hidden runs",
+    "broken: pairs of which one releases what the other only tries to",
+    "broken: pairs of which neither releases what both try to",
+];
+
+/// The trial of all pairs and texts.
+struct Trial<'a> {
+    calls: &'a dyn Calls,
+    random: Random,
+    trials: Trials,
+}
+
+/// A pair that was tried: what its machines did, and the certificate.
+struct Tried {
+    level: Label,
+    certificate: Certificate,
+    one: Trace,
+    other: Trace,
+    bounds: [Bounds; 2],
+}
+
+fn main() -> ExitCode {
+    let words: Vec<String> = env::args().skip(1).collect();
+    let number = |at: usize| words.get(at).and_then(|word| word.parse().ok());
+    let is_library = words.get(2).is_none_or(|word| word != "interpreter");
+    let calls: &dyn Calls = if is_library { &Library } else { &Other };
+    let random = Random::new(number(0).unwrap_or(1));
+    let trials = Trials::new(Tally::expecting(expected(is_library)));
+    let mut trial = Trial { calls, random, trials };
+    let count = number(1).unwrap_or(10_000);
+    for turn in 0..count {
+        trial.try_pair();
+        if is_library {
+            trial.try_text(turn as usize);
+        }
+    }
+    let Trials { tally, passed, failed } = trial.trials;
+    print!("{tally}");
+    let unmet = tally.unmet();
+    println!("kinds never met: {unmet:?}");
+    close(passed, failed, unmet.len())
+}
+
+/// All that must come up: of texts only where the library is tried.
+fn expected(is_library: bool) -> Vec<String> {
+    let mut names = EXPECTED.map(str::to_string).to_vec();
+    names.extend(CAME.map(|(_, name)| name.to_string()));
+    names.extend(CAUSES.map(|cause| format!("pairs with {cause}")));
+    names.extend(CAUSES[1..].iter().map(|cause| differ(cause)));
+    if is_library {
+        names.extend(CERTIFY.expected());
+        names.extend(CAUSES.map(|cause| format!("certify, {cause}")));
+    }
+    names
+}
+
+fn differ(cause: &str) -> String {
+    format!("broken: pairs that differ from {cause} on")
+}
+
+impl Trial<'_> {
+    /// The library and the interpreter on one text.
+    fn try_text(&mut self, turn: usize) {
+        if let Some(cause) = try_certify(&mut self.trials, &mut self.random, turn) {
+            self.trials.tally.count(&format!("certify, {}", CAUSES[cause as usize % 4]));
+        }
+    }
+
+    fn try_pair(&mut self) {
+        let pair = Pair::make(&mut self.random);
+        match self.check(&pair) {
+            Ok(()) => self.trials.passed += 1,
+            Err(what) => {
+                self.trials.failed += 1;
+                if self.trials.failed <= SHOWN {
+                    let Pair { level, one, other } = pair;
+                    println!("at label {}: {what}", level.0);
+                    println!("{}\nand\n{}", one.lines().join("\n"), other.lines().join("\n"));
+                }
+            }
+        }
+    }
+
+    /// The certificate of a pair: that of the one, which the other must have too,
+    /// and which is the interpreter's.
+    fn certificate(&mut self, pair: &Pair) -> Result<Certificate, String> {
+        let Pair { level, one, other } = pair;
+        let size = one.words.len();
+        let mut of = |calls: &dyn Calls, text: &[u8]| {
+            certificate_of(calls, &mut self.random, *level, text, size)
+        };
+        let certificate = of(self.calls, &one.text())?;
+        let others = [of(self.calls, &other.text())?, of(&Other, &one.text())?];
+        if others != [certificate; 2] {
+            return Err(format!(
+                "{certificate:?}; of the other, and by the interpreter: {others:?}"
+            ));
+        }
+        Ok(certificate)
+    }
+
+    /// What a certificate promises of one pair: below the tick of the break both
+    /// meet the provisos, and they are alike where both have come.
+    fn check(&mut self, pair: &Pair) -> Result<(), String> {
+        let certificate = self.certificate(pair)?;
+        let Pair { level, one, other } = pair;
+        let size = one.words.len();
+        let (calls, random, tally) = (self.calls, &mut self.random, &mut self.trials.tally);
+        let one = trace(calls, random, tally, &one.text(), size)?;
+        let other = trace(calls, random, tally, &other.text(), size)?;
+        let bounds = [bounds(*level, &one), bounds(*level, &other)];
+        if let Some(tick) = broken_under(certificate, both(bounds[0], bounds[1])) {
+            return Err(format!("{certificate:?}, and a proviso broken at tick {tick}"));
+        }
+        let reached = unreached(&one, &other);
+        let bound = uncovered(certificate).unwrap_or(reached).min(reached);
+        let compared = compare(*level, &one, &other, bound);
+        tally.add("ticks compared", compared.ticks);
+        let tried = Tried { level: *level, certificate, one, other, bounds };
+        tried.count(tally, bound, reached);
+        match compared.differs {
+            Some((tick, what)) => Err(format!("{certificate:?}, and not alike at {tick}, {what}")),
+            None => Ok(()),
+        }
+    }
+}
+
+impl Tried {
+    /// Counts what kind of pair it is.
+    fn count(&self, tally: &mut Tally, bound: u64, reached: u64) {
+        tally.count("pairs");
+        tally.count(&format!("pairs with {}", CAUSES[self.certificate.cause as usize % 4]));
+        if self.certificate == Certificate::WHOLE {
+            self.count_whole(tally, bound);
+        } else {
+            self.count_broken(tally, bound, reached);
+        }
+    }
+
+    /// A pair that is certified to the end.
+    fn count_whole(&self, tally: &mut Tally, bound: u64) {
+        let Tried { level, one, other, .. } = self;
+        let came = came(*level, one, other, bound);
+        CAME.iter().for_each(|(far, name)| tally.count_if(came >= *far, name));
+        let hidden = !one.states[0].shows_control(*level);
+        tally.count_if(hidden, "certified to the end: pairs hidden at the start");
+        let ended = one.unreached().is_none() && other.unreached().is_none();
+        let apart = ended && one.last().machine.end != other.last().machine.end;
+        let name = "certified to the end: pairs alike to the last tick though their ends differ";
+        tally.count_if(apart, name);
+    }
+
+    /// A pair with a break: what went before, whether the two differ from there
+    /// on, and which of them released what they tried to.
+    fn count_broken(&self, tally: &mut Tally, bound: u64, reached: u64) {
+        let Tried { level, certificate, one, other, bounds } = self;
+        let tick = certificate.tick;
+        tally.count_if(tick == 0, "broken: pairs at the loaded state");
+        let parted = compare(*level, one, other, reached).differs.is_some();
+        tally.count_if(parted, &differ(CAUSES[certificate.cause as usize % 4]));
+        let far = came(*level, one, other, bound) >= Came::BackByDifferentRuns;
+        tally.count_if(far, "broken: pairs after a hidden upcall by different hidden runs");
+        if certificate.cause == cause::RELEASE && tick < reached {
+            let released = bounds.map(|bounds| bounds[0] == Some(tick));
+            let name = "broken: pairs of which one releases what the other only tries to";
+            tally.count_if(released[0] != released[1], name);
+            let name = "broken: pairs of which neither releases what both try to";
+            tally.count_if(released == [false; 2], name);
+        }
+    }
+}
