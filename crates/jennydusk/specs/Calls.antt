@@ -3,7 +3,7 @@
 -- 0 where nothing was refused, 255 for a record's or a certificate's buffer that is too short.
 -- Assumes nothing.
 use Prim.Native.Nat.{ℕ, _+_, _*_}
-use mathlib.Core.Bool.{Bool, true, false, cond}
+use mathlib.Core.Bool.{Bool, cond}
 use mathlib.Core.List.{List, _∷_}
 use lib.Dec.{ltb}
 use lib.ListN.{length, drop}
@@ -11,7 +11,7 @@ use Rattle.causes.specs.declared.Cause.the-variants.{IllFormed}
 use Rattle.causes.specs.declared.Outcome.{Outcome}
 use Rattle.causes.specs.declared.Outcome.the-variants.{Done, Refused}
 use Rattle.causes.specs.Causes.{numberOf}
-use Rattle.model.specs.Record.{Bank, Machine}
+use Rattle.model.specs.Record.{Bank, Machine, lent}
 use Rattle.model.specs.Answer.{Answer, stepAnswer, runAnswer}
 use Rattle.model.specs.Load.{Loading, load}
 use Rattle.model.specs.Listing.{Printing, print}
@@ -59,7 +59,7 @@ pub record Left : Type 0 where
 -- These three.
 abbrev pub left : ℕ → List ℕ → List ℕ → List ℕ → Left
 left answer buffer words labels =
-    record { answer = answer; buffer = buffer; memory = record { values = words; labels = labels } }
+    record { answer = answer; buffer = buffer; memory = lent words labels }
 
 -- All is left.
 abbrev pub untouched : List ℕ → Bank → ℕ → Left
@@ -159,10 +159,3 @@ printed (holds r) m out = afterPrinting (print r m out)
 -- jennydusk_print.
 unfoldable pub printCall : List ℕ → Bank → List ℕ → Shown
 printCall b m out = unlessShort (unwritten out) span b (printed (machineIn b) m out)
-
--- ======== Here ends what the public promises cite.
-
--- The answer of step, or of run.
-abbrev pub stepOrRun : Bool → Machine → Bank → Answer
-stepOrRun true = stepAnswer
-stepOrRun false = runAnswer

@@ -5,14 +5,15 @@ use causes::Cause;
 use causes::Outcome;
 use decoder::Found;
 use loader::load;
-use machine::Answer;
 use machine::Machine;
+use model::Request;
 use printer::print;
 ghost use Prim.Native.Nat.{_≤_, _^_};
 ghost use mathlib.Core.Path.{_≡_};
 ghost use Rattle.model.specs.Record.{lent};
-ghost use Rattle.machine.specs.Answered.{recordOf, answered};
-ghost use Rattle.jennydusk.specs.Calls.{isShort, noRecord, left, keptRecord, counted, recordCall, shown, loadCall, stepCall, runCall, printCall, stepOrRun};
+ghost use Rattle.model.specs.Answer.{answerOf};
+ghost use Rattle.machine.specs.Answered.{recordOf};
+ghost use Rattle.jennydusk.specs.Calls.{isShort, noRecord, left, keptRecord, counted, recordCall, shown, loadCall, stepCall, runCall, printCall};
 
 mod certify_call;
 mod label_calls;
@@ -79,19 +80,9 @@ pub extern "C" fn jennydusk_load(
     counted(number, line)
 }
 
-// The answer of one step, or of a run.
-fn step_or_run(once: bool, machine: Machine, words: &mut [u32], labels: &mut [u8]) -> Answer
-    ensures { λ r. ⌜ answered r (now (words .exit)) (now (labels .exit)) ≡ stepOrRun once (recordOf machine) (lent (now (words .entry)) (now (labels .entry))) ⌝ }
-{
-    if once {
-        return machine.step(words, labels);
-    }
-    machine.run(words, labels)
-}
-
 // One step of the record in the buffer, or its run: what the two calls below share.
-fn advanced(once: bool, record: &mut [u64], words: &mut [u32], labels: &mut [u8]) -> u64
-    ensures { λ r. ⌜ left r (now («record» .exit)) (now (words .exit)) (now (labels .exit)) ≡ recordCall (stepOrRun once) (now («record» .entry)) (lent (now (words .entry)) (now (labels .entry))) ⌝ }
+fn advanced(request: Request, record: &mut [u64], words: &mut [u32], labels: &mut [u8]) -> u64
+    ensures { λ r. ⌜ left r (now («record» .exit)) (now (words .exit)) (now (labels .exit)) ≡ recordCall (answerOf request) (now («record» .entry)) (lent (now (words .entry)) (now (labels .entry))) ⌝ }
 {
     if is_short(record, RECORD_SPAN) {
         return SHORT_BUFFER;
@@ -102,7 +93,7 @@ fn advanced(once: bool, record: &mut [u64], words: &mut [u32], labels: &mut [u8]
         return no_record();
     }
     let machine = reading.machine;
-    let answer = step_or_run(once, machine, words, labels);
+    let answer = machine.answer(request, words, labels);
     let outcome = answer.outcome;
     let next = answer.machine;
     keep(outcome, next, record);
@@ -114,7 +105,7 @@ fn advanced(once: bool, record: &mut [u64], words: &mut [u32], labels: &mut [u8]
 pub extern "C" fn jennydusk_step(record: &mut [u64], words: &mut [u32], labels: &mut [u8]) -> u64
     ensures { λ r. ⌜ left r (now («record» .exit)) (now (words .exit)) (now (labels .exit)) ≡ stepCall (now («record» .entry)) (lent (now (words .entry)) (now (labels .entry))) ⌝ }
 {
-    advanced(true, record, words, labels)
+    advanced(Request::Step, record, words, labels)
 }
 
 // Steps of the record until its end isn't 0.
@@ -122,7 +113,7 @@ pub extern "C" fn jennydusk_step(record: &mut [u64], words: &mut [u32], labels: 
 pub extern "C" fn jennydusk_run(record: &mut [u64], words: &mut [u32], labels: &mut [u8]) -> u64
     ensures { λ r. ⌜ left r (now («record» .exit)) (now (words .exit)) (now (labels .exit)) ≡ runCall (now («record» .entry)) (lent (now (words .entry)) (now (labels .entry))) ⌝ }
 {
-    advanced(false, record, words, labels)
+    advanced(Request::Run, record, words, labels)
 }
 
 // Writes the listing of the record and its memory into `out`.

@@ -1,16 +1,17 @@
 -- Laws about the whole record: when it is well-formed, and what a call answers.
 -- Assumes nothing.
-use Prim.Native.Nat.{ℕ, _+_, _-_, _^_, _≤_, _<_}
+use Prim.Native.Nat.{ℕ, _-_, _≤_}
 use mathlib.Core.Path.{_≡_, refl, ap, _∙_}
-use mathlib.Core.Bool.{Bool, true, false, _&&_, cond, false≢true}
+use mathlib.Core.Bool.{Bool, true, false, _&&_, false≢true}
 use mathlib.Core.List.{List}
-use borrow.Author.Tests.{leb-true, le-leb, lt-leb}
+use borrow.Author.Tests.{leb-true}
 use lib.Dec.{leb}
-use lib.ListN.{length}
 use Rattle.causes.specs.declared.Cause.the-variants.{ShortMemory, IllFormed}
 use Rattle.causes.specs.declared.Outcome.the-variants.{Done, Refused}
 use Rattle.model.specs.declared.Pair.{Pair}
 use Rattle.model.specs.declared.Control.{Control}
+use Rattle.model.specs.declared.Request.{Request}
+use Rattle.model.specs.declared.Request.the-variants.{Step, Run}
 use Rattle.model.specs.declared.Call.{Call}
 use Rattle.model.specs.declared.Call.the-variants.{Empty, Gate, Upcall}
 use Rattle.model.specs.Numbers.{mostWords, mostTicks, mostGates}
@@ -18,12 +19,13 @@ use Rattle.model.specs.Record.{State, machineOf, isEmpty, lent}
 use Rattle.model.specs.Record as records
 use Rattle.model.specs.WellFormed.{isValid, fixedInRange, endInRange, upcallWellFormed, callsWellFormed, wellFormed, lentWhole}
 use Rattle.model.specs.Step.{step, steps, run}
-use Rattle.model.specs.Answer.{answer}
+use Rattle.model.specs.Answer.{answer, work, answerOf}
+use Rattle.model.proofs.Ready.{whole-lengths}
 use Rattle.machine.specs.declared.Machine.{Machine}
 use Rattle.engine.specs.Advance.{stateFrom}
 use Rattle.engine.specs.Inner.Drive.{InRanges}
 use Rattle.machine.specs.Answered.{recordOf, answered}
-use Rattle.machine.specs.Inner.Carried.{stepped, Carried}
+use Rattle.machine.specs.Inner.Carried.{countOf, Carried}
 use Rattle.machine.specs.Inner.WellFormed.{overGate}
 
 -- ---- the two places for open calls, by the first
@@ -87,48 +89,48 @@ module _ (r : records.Machine) (e : wellFormed r ≡ true) where
       (passed-right (leb 1 (r .fixed .size) && leb (r .fixed .size) mostWords && leb 1 (r .fixed .limit) && leb (r .fixed .limit) mostTicks) _ in-range)
 
   -- The ranges that the steps ask.
-  pub ranges-of : {words marks : List ℕ} → r .fixed .size ≤ length words → r .fixed .size ≤ length marks → InRanges (r .fixed) (r .control) words marks
-  ranges-of a b =
-      record { size = size-within; limit = limit-within; gates = gates-within; clock = clock-within; words = a; marks = b }
+  pub ranges-of : (m : records.Bank) → lentWhole (r .fixed .size) m ≡ true → InRanges (r .fixed) (r .control) (m .values) (m .labels)
+  ranges-of m h =
+      let w = whole-lengths _ m h in
+      record { size = size-within; limit = limit-within; gates = gates-within; clock = clock-within; words = w .0; marks = w .1 }
 
 -- ---- what a call answers
 
 -- One step, or as many as a run can take.
-counted : (once : Bool) (s : State) → steps (cond once 1 (s .fixed .limit - s .control .clock + 1)) s ≡ stepped once s
+counted : (q : Request) (s : State) → steps (countOf q (s .fixed .limit) (s .control .clock)) s ≡ work q s
 unfolding steps run
-counted true s = refl
-counted false s = refl
+counted Step s = refl
+counted Run s = refl
 
-pub carried-of : {once : Bool} {m : Machine} {count : ℕ} {words labels : List ℕ} {control : Control} {values marks words′ : List ℕ}
-    → count ≡ cond once 1 (m .fixed .limit - m .control .clock + 1)
+pub carried-of : {q : Request} {m : Machine} {count : ℕ} {words labels : List ℕ} {control : Control} {values marks words′ : List ℕ}
+    → count ≡ countOf q (m .fixed .limit) (m .control .clock)
     → stateFrom (m .fixed) control values marks words′ labels ≡ steps count (stateFrom (m .fixed) (m .control) (m .values) (m .labels) words labels)
-    → Carried once m words labels (record { fixed = m .fixed; control = control; values = values; labels = marks }) words′ labels
-carried-of {once} {m} {count} {words} {labels} {control} {values} {marks} {words′} e h =
+    → Carried q m words labels (record { fixed = m .fixed; control = control; values = values; labels = marks }) words′ labels
+carried-of {q} {m} {count} {words} {labels} {control} {values} {marks} {words′} e h =
     record { machine = ap machineOf there; memory = ap (λ (s : State). s .memory) there }
   where
-    there : stateFrom (m .fixed) control values marks words′ labels ≡ stepped once (stateFrom (m .fixed) (m .control) (m .values) (m .labels) words labels)
+    there : stateFrom (m .fixed) control values marks words′ labels ≡ work q (stateFrom (m .fixed) (m .control) (m .values) (m .labels) words labels)
     there =
         h ∙ ap (λ (n : ℕ). steps n (stateFrom (m .fixed) (m .control) (m .values) (m .labels) words labels)) e
-        ∙ counted once (stateFrom (m .fixed) (m .control) (m .values) (m .labels) words labels)
+        ∙ counted q (stateFrom (m .fixed) (m .control) (m .values) (m .labels) words labels)
 
-module _ (once : Bool) (m : Machine) (words labels : List ℕ) where
-  pub answered-done : {r : Machine} {words′ labels′ : List ℕ} → wellFormed (recordOf m) ≡ true → m .fixed .size ≤ length words
-      → m .fixed .size ≤ length labels → Carried once m words labels r words′ labels′
-      → answered (record { outcome = Done; machine = r }) words′ labels′ ≡ answer (stepped once) (recordOf m) (lent words labels)
-  unfolding answer lentWhole
-  answered-done w a b h = rw (w, le-leb _ _ a, le-leb _ _ b, h .machine, h .memory)
-
-  pub answered-short-words : wellFormed (recordOf m) ≡ true → length words < m .fixed .size
-      → answered (record { outcome = Refused ShortMemory; machine = m }) words labels ≡ answer (stepped once) (recordOf m) (lent words labels)
-  unfolding answer lentWhole
-  answered-short-words w a = rw (w, lt-leb _ _ a)
-
-  pub answered-short-labels : wellFormed (recordOf m) ≡ true → m .fixed .size ≤ length words → length labels < m .fixed .size
-      → answered (record { outcome = Refused ShortMemory; machine = m }) words labels ≡ answer (stepped once) (recordOf m) (lent words labels)
-  unfolding answer lentWhole
-  answered-short-labels w a b = rw (w, le-leb _ _ a, lt-leb _ _ b)
-
+module _ (q : Request) (m : Machine) (words labels : List ℕ) where
+  -- 7 where the record is not well-formed.
   pub answered-ill : wellFormed (recordOf m) ≡ false
-      → answered (record { outcome = Refused IllFormed; machine = m }) words labels ≡ answer (stepped once) (recordOf m) (lent words labels)
+      → answered (record { outcome = Refused IllFormed; machine = m }) words labels ≡ answerOf q (recordOf m) (lent words labels)
   unfolding answer
   answered-ill w = rw w
+
+  module _ (w : wellFormed (recordOf m) ≡ true) where
+    -- Then 6 where lent words or labels are shorter than the size.
+    pub answered-short : lentWhole (m .fixed .size) (lent words labels) ≡ false
+        → answered (record { outcome = Refused ShortMemory; machine = m }) words labels ≡ answerOf q (recordOf m) (lent words labels)
+    unfolding answer
+    answered-short l = rw (w, l)
+
+    -- Else what was asked for.
+    pub answered-done : lentWhole (m .fixed .size) (lent words labels) ≡ true → {r : Machine} {words′ labels′ : List ℕ}
+        → Carried q m words labels r words′ labels′
+        → answered (record { outcome = Done; machine = r }) words′ labels′ ≡ answerOf q (recordOf m) (lent words labels)
+    unfolding answer
+    answered-done l h = rw (w, l, h .machine, h .memory)

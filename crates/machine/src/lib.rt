@@ -13,7 +13,8 @@ use wellformed::calls_well_formed;
 use wellformed::end_in_range;
 use wellformed::fixed_in_range;
 ghost use mathlib.Core.Path.{_≡_};
-ghost use Rattle.model.specs.WellFormed.{wellFormed};
+ghost use Rattle.model.specs.Record.{lent};
+ghost use Rattle.model.specs.WellFormed.{wellFormed, lentWhole};
 ghost use Rattle.model.specs.Load.{machineOfHeader};
 ghost use Rattle.machine.specs.Answered.{recordOf};
 
@@ -26,6 +27,14 @@ pub struct Machine {
     pub control: Control,
     pub values: [u32; REGISTER_COUNT],
     pub labels: [u8; REGISTER_COUNT],
+}
+
+// Whether the lent words and labels are each at least as long as the size.
+pub fn is_lent_whole(size: u32, words: &[u32], labels: &[u8]) -> bool
+    ensures { λ r. ⌜ r ≡ lentWhole size (lent (now (words .entry)) (now (labels .entry))) ⌝ }
+{
+    let count = size as usize;
+    (count <= words.len()) & (count <= labels.len())
 }
 
 // What a call answers.

@@ -2,46 +2,43 @@
 // then the record comes back and memory is left.
 use crate::Answer;
 use crate::Machine;
+use crate::is_lent_whole;
 use causes::Cause;
 use causes::Outcome;
 use engine::steps::advance;
-ghost use Prim.Native.Nat.{_+_, _-_, _≤_};
+use model::Request;
+ghost use Prim.Native.Nat.{_≤_};
 ghost use mathlib.Core.Path.{_≡_};
-ghost use mathlib.Core.Bool.{true, cond};
-ghost use lib.ListN.{length};
+ghost use mathlib.Core.Bool.{true};
 ghost use Rattle.model.specs.Numbers.{mostTicks};
-ghost use Rattle.model.specs.WellFormed.{wellFormed};
-ghost use Rattle.model.specs.Answer.{answer, stepAnswer, runAnswer};
 ghost use Rattle.model.specs.Record.{lent};
+ghost use Rattle.model.specs.WellFormed.{wellFormed, lentWhole};
+ghost use Rattle.model.specs.Answer.{answerOf, stepAnswer, runAnswer};
 ghost use Rattle.machine.specs.Answered.{recordOf, answered};
-ghost use Rattle.machine.specs.Inner.Carried.{stepped, Carried};
-
-// A size as a length.
-fn length_of(size: u32) -> usize
-    ensures { λ r. ⌜ r ≡ size ⌝ }
-{
-    size as usize
-}
+ghost use Rattle.machine.specs.Inner.Carried.{countOf, Carried};
 
 // How many steps: one, or as many as a run can take.
-fn step_count(once: bool, limit: u32, clock: u32) -> u32
+fn step_count(request: Request, limit: u32, clock: u32) -> u32
     requires { ⌜ (clock ≤ limit) × (limit ≤ mostTicks) ⌝ }
-    ensures { λ r. ⌜ r ≡ cond once 1 (limit - clock + 1) ⌝ }
+    ensures { λ r. ⌜ r ≡ countOf request limit clock ⌝ }
 {
-    if once { 1 } else { limit - clock + 1 }
+    match request {
+        Request::Step => 1,
+        Request::Run => limit - clock + 1,
+    }
 }
 
 impl Machine {
-    // One step or a run of a well-formed record with memory that is lent whole.
-    fn carried(self, once: bool, words: &mut [u32], labels: &mut [u8]) -> Machine
-        requires { ⌜ (wellFormed (recordOf self) ≡ true) × (self .fixed .size ≤ length (now words)) × (self .fixed .size ≤ length (now labels)) ⌝ }
-        ensures { λ r. ⌜ Carried once self (now (words .entry)) (now (labels .entry)) r (now (words .exit)) (now (labels .exit)) ⌝ }
+    // What is asked for, of a well-formed record with memory that is lent whole.
+    fn carried(self, request: Request, words: &mut [u32], labels: &mut [u8]) -> Machine
+        requires { ⌜ (wellFormed (recordOf self) ≡ true) × (lentWhole (self .fixed .size) (lent (now words) (now labels)) ≡ true) ⌝ }
+        ensures { λ r. ⌜ Carried request self (now (words .entry)) (now (labels .entry)) r (now (words .exit)) (now (labels .exit)) ⌝ }
     {
         let fixed = self.fixed;
         let start = self.control;
         let mut values = self.values;
         let mut marks = self.labels;
-        let count = step_count(once, fixed.limit, start.clock);
+        let count = step_count(request, fixed.limit, start.clock);
         let control = advance(fixed, start, count, &mut values, &mut marks, words, labels);
         Machine {
             fixed,
@@ -61,21 +58,17 @@ impl Machine {
     }
 
     // The answer of one step or of a run.
-    fn answer(self, once: bool, words: &mut [u32], labels: &mut [u8]) -> Answer
-        ensures { λ r. ⌜ answered r (now (words .exit)) (now (labels .exit)) ≡ answer (stepped once) (recordOf self) (lent (now (words .entry)) (now (labels .entry))) ⌝ }
+    pub fn answer(self, request: Request, words: &mut [u32], labels: &mut [u8]) -> Answer
+        ensures { λ r. ⌜ answered r (now (words .exit)) (now (labels .exit)) ≡ answerOf request (recordOf self) (lent (now (words .entry)) (now (labels .entry))) ⌝ }
     {
         if self.is_well_formed() {
             let fixed = self.fixed;
-            let size = length_of(fixed.size);
-            if words.len() < size {
-                return self.refused(Cause::ShortMemory);
+            if is_lent_whole(fixed.size, words, labels) {
+                let outcome = Outcome::Done;
+                let machine = self.carried(request, words, labels);
+                return Answer { outcome, machine };
             }
-            if labels.len() < size {
-                return self.refused(Cause::ShortMemory);
-            }
-            let outcome = Outcome::Done;
-            let machine = self.carried(once, words, labels);
-            return Answer { outcome, machine };
+            return self.refused(Cause::ShortMemory);
         }
         self.refused(Cause::IllFormed)
     }
@@ -84,13 +77,13 @@ impl Machine {
     pub fn step(self, words: &mut [u32], labels: &mut [u8]) -> Answer
         ensures { λ r. ⌜ answered r (now (words .exit)) (now (labels .exit)) ≡ stepAnswer (recordOf self) (lent (now (words .entry)) (now (labels .entry))) ⌝ }
     {
-        self.answer(true, words, labels)
+        self.answer(Request::Step, words, labels)
     }
 
     // Steps until the end isn't 0.
     pub fn run(self, words: &mut [u32], labels: &mut [u8]) -> Answer
         ensures { λ r. ⌜ answered r (now (words .exit)) (now (labels .exit)) ≡ runAnswer (recordOf self) (lent (now (words .entry)) (now (labels .entry))) ⌝ }
     {
-        self.answer(false, words, labels)
+        self.answer(Request::Run, words, labels)
     }
 }

@@ -36,7 +36,7 @@ use Rattle.model.specs.Text.{lines}
 use Rattle.model.specs.Load.{machineOfHeader, withGate, withRegister, withEntry, withLine, headerInRange, gateInRange, entryInRange, headerTests, lineTests, behindHeader, lastOf, Verdict, refuse, accept, tried, judge, judgeHeader, judgeLines, judgeText, cleared, withWord, fill, settle, load}
 use Rattle.model.specs.Program.{stateOfLoad}
 use Rattle.model.proofs.Truth.{choice, and-iff, clash}
-use Rattle.model.proofs.Ready.{FixedFit, none, fit, fits, Ready}
+use Rattle.model.proofs.Ready.{FixedFit, none, fit, fits, whole-lengths, Ready}
 use Rattle.model.proofs.Step.{value-typed, label-typed}
 
 -- ---- the state while the lines are read
@@ -414,12 +414,6 @@ module _ (m : Bank) (words : 2048 ≤ length (m .values)) (labels : 2048 ≤ len
 
 -- A loaded state is ready.
 pub loaded-ready : (s : State) → Loaded s → Ready s
-unfolding lentWhole
 loaded-ready s l =
-    let h = simp and-iff at (l .lent) in
-    record {
-      fit = fit (machineOf s) (l .wellFormed);
-      typed = l .typed;
-      words = leb-true (s .fixed .size) (length (s .memory .values)) (h .0);
-      labels = leb-true (s .fixed .size) (length (s .memory .labels)) (h .1);
-    }
+    let h = whole-lengths _ (s .memory) (l .lent) in
+    record { fit = fit (machineOf s) (l .wellFormed); typed = l .typed; words = h .0; labels = h .1 }

@@ -17,8 +17,8 @@ use Rattle.model.specs.declared.Fixed.{Fixed}
 use Rattle.model.specs.declared.Control.{Control}
 use Rattle.model.specs.declared.Call.{Call}
 use Rattle.model.specs.declared.Call.the-variants.{Empty, Gate, Upcall}
-use Rattle.model.specs.Record.{Machine, State, machineOf}
-use Rattle.model.specs.WellFormed.{isValid, fixedInRange, endInRange, upcallWellFormed, callsWellFormed, wellFormed}
+use Rattle.model.specs.Record.{Bank, Machine, State, machineOf}
+use Rattle.model.specs.WellFormed.{isValid, fixedInRange, endInRange, upcallWellFormed, callsWellFormed, wellFormed, lentWhole}
 use Rattle.model.specs.Numbers.{valueCount}
 use Rattle.model.specs.Inner.Typed.{Below, Typed}
 use Rattle.model.proofs.Truth.{either, and-iff, clash}
@@ -127,6 +127,14 @@ fit r e =
 pub fits : (r : Machine) → Fit r → wellFormed r ≡ true
 unfolding wellFormed
 fits r h = rw (fixed-fits (h .fixed), h .end, le-leb _ _ (h .clock), h .valid, calls-fits (r .control) (h .calls))
+
+-- ---- the memory that is lent
+
+-- Memory that is lent whole: words and labels are each at least as long as the size.
+pub whole-lengths : (size : ℕ) (m : Bank) → lentWhole size m ≡ true → (size ≤ length (m .values)) × (size ≤ length (m .labels))
+unfolding lentWhole
+whole-lengths size m e =
+    let h = and-iff _ _ .0 e in (leb-true size (length (m .values)) (h .0), leb-true size (length (m .labels)) (h .1))
 
 -- ---- the state
 

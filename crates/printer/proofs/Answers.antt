@@ -2,18 +2,16 @@
 -- Assumes nothing.
 use Prim.Native.Nat.{ℕ, _<_, _≤_}
 use mathlib.Core.Path.{_≡_, sym, _∙_}
-use mathlib.Core.Bool.{Bool, true, false, _&&_}
+use mathlib.Core.Bool.{Bool, true, false}
 use mathlib.Core.List.{List}
-use lib.Dec.{leb}
 use lib.ListN.{length}
-use borrow.Author.Tests.{le-leb, lt-leb, leb-true}
+use borrow.Author.Tests.{le-leb, lt-leb}
 use Rattle.causes.specs.declared.Cause.the-variants.{ShortMemory, IllFormed, ShortOutput}
 use Rattle.causes.specs.declared.Outcome.the-variants.{Done}
 use Rattle.model.specs.Record.{Bank, Machine, stateOf}
 use Rattle.model.specs.WellFormed.{wellFormed, lentWhole}
 use Rattle.model.specs.Listing.{listing, Printing, notPrinted, print}
-use Rattle.model.proofs.Truth.{and-iff}
-use Rattle.model.proofs.Ready.{fit}
+use Rattle.model.proofs.Ready.{fit, whole-lengths}
 use Rattle.writer.specs.Writing.{over}
 use Rattle.writer.specs.Inner.Wrote.{Wrote}
 use Rattle.printer.specs.Inner.Placing.{printedWhole, Entries}
@@ -48,22 +46,17 @@ module _ (r : Machine) (m : Bank) (out : List ℕ) where
     size-most = fit r (sym e ∙ t) .fixed .sizeHigh
 
     -- 6 where lent words or labels are shorter than the size.
-    pub short-memory : (w : Bool)
-        → w ≡ (leb (r .fixed .size) (length (m .values)) && leb (r .fixed .size) (length (m .labels)))
-        → w ≡ false → notPrinted ShortMemory r out ≡ print r m out
-    unfolding print lentWhole
+    pub short-memory : (w : Bool) → w ≡ lentWhole (r .fixed .size) m → w ≡ false → notPrinted ShortMemory r out ≡ print r m out
+    unfolding print
     short-memory w h f = rw ((sym e), t, ← h, f)
 
-    module _ (w : Bool) (h : w ≡ (leb (r .fixed .size) (length (m .values)) && leb (r .fixed .size) (length (m .labels))))
-        (u : w ≡ true)
-      where
-        -- Else there are so many entries.
-        pub lent-whole : Entries (m .values) (m .labels) (r .fixed .size)
-        lent-whole =
-            let p = and-iff _ _ .0 (sym h ∙ u) in
-            record { enough = leb-true _ _ (p .0); labelled = leb-true _ _ (p .1); most = size-most }
+    module _ (w : Bool) (h : w ≡ lentWhole (r .fixed .size) m) (u : w ≡ true) where
+      -- Else there are so many entries.
+      pub lent-whole : Entries (m .values) (m .labels) (r .fixed .size)
+      lent-whole =
+          let p = whole-lengths _ m (sym h ∙ u) in record { enough = p .0; labelled = p .1; most = size-most }
 
-        -- And it turns on the output.
-        pub whole : {x : Printing} → x ≡ printedWhole r m out → x ≡ print r m out
-        unfolding print lentWhole printedWhole
-        whole f = rw ((sym e), t, ← h, u) f
+      -- And it turns on the output.
+      pub whole : {x : Printing} → x ≡ printedWhole r m out → x ≡ print r m out
+      unfolding print printedWhole
+      whole f = rw ((sym e), t, ← h, u) f

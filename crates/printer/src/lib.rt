@@ -1,25 +1,24 @@
 // Printing a machine: its listing, written into lent output line by line, each into the part that begins where the line
 // before it ended. The length is known before the first byte is written, so a refusal leaves the output as it was.
+use causes::Cause;
+use causes::Outcome;
+use labels::Label;
+use machine::Machine;
+use machine::is_lent_whole;
+use model::Call;
+use model::Control;
+use model::Pair;
+use writer::write_line;
 ghost use mathlib.Core.Path.{_≡_};
-ghost use mathlib.Core.Bool.{_&&_};
 ghost use Prim.Native.Nat.{_+_, _*_, _≤_};
-ghost use lib.Dec.{leb};
 ghost use lib.ListN.{length};
+ghost use Rattle.model.specs.Record.{lent};
 ghost use Rattle.model.specs.Numbers.{mostFields};
 ghost use Rattle.model.specs.Listing.{line, endFields, callFields, callLine, headLines, isListed, entryLine, entryLines, listing};
 ghost use Rattle.model.specs.Listing.{print as Listing·print};
 ghost use Rattle.machine.specs.Answered.{recordOf};
 ghost use Rattle.printer.specs.Printing.{printingOf};
 ghost use Rattle.printer.specs.Inner.Placing.{stateWith, printedWhole, Entries, longest, longestEntry, Placed};
-ghost use Rattle.model.specs.Record.{lent};
-use causes::Cause;
-use causes::Outcome;
-use labels::Label;
-use machine::Machine;
-use model::Call;
-use model::Control;
-use model::Pair;
-use writer::write_line;
 
 // The letters of the lines.
 const E: u8 = b'E';
@@ -61,23 +60,15 @@ pub fn print(machine: Machine, words: &[u32], labels: &[u8], out: &mut [u8]) -> 
     ensures { λ r. ⌜ printingOf r (now (out .exit)) ≡ Listing·print (recordOf machine) (lent (now (words .entry)) (now (labels .entry))) (now (out .entry)) ⌝ }
 {
     let fixed = machine.fixed;
-    let fit = machine.is_well_formed();
-    let whole = is_whole(fixed.size, words, labels);
-    if !fit {
+    let well_formed = machine.is_well_formed();
+    let whole = is_lent_whole(fixed.size, words, labels);
+    if !well_formed {
         return refused(machine, Cause::IllFormed);
     }
     if !whole {
         return refused(machine, Cause::ShortMemory);
     }
     print_whole(machine, words, labels, out)
-}
-
-// Whether the lent words and labels are each at least as long as the size.
-fn is_whole(size: u32, words: &[u32], labels: &[u8]) -> bool
-    ensures { λ r. ⌜ r ≡ leb size (length (now (words .entry))) && leb size (length (now (labels .entry))) ⌝ }
-{
-    let count = size as usize;
-    (count <= words.len()) & (count <= labels.len())
 }
 
 // Prints a machine whose memory is whole, where the output is long enough.

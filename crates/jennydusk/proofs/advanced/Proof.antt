@@ -2,10 +2,11 @@
 -- Assumes nothing.
 use borrow.Author.Needs.{needs}
 use Rattle.model.specs.Record.{lent}
+use Rattle.model.specs.Answer.{answerOf}
 use Rattle.decoder.specs.Held.{machineIn}
 use Rattle.decoder.specs.Reading as reading
 use Rattle.encoder.specs.Places.{span}
-use Rattle.jennydusk.specs.Calls.{untouched, recordCall, stepOrRun}
+use Rattle.jennydusk.specs.Calls.{untouched, recordCall}
 use Rattle.jennydusk.proofs.Laws.{when-short, when-long, not-called, was-called}
 use Rattle.jennydusk.proofs.advanced.Statement.{statement}
 use Rattle.jennydusk.proofs.advanced.Tie as tie
@@ -46,14 +47,14 @@ returns-2 c =
     let memory = lent (start .args .words .now) (start .args .labels .now) in
     when-long (untouched buffer memory) span buffer (long .before .is-short .ensures) (long .if1 .left)
     (rw (c .no-record .ensures)
-    (not-called (stepOrRun (start .args .once)) buffer memory (reading .read .result) (machineIn buffer) (reading .read .ensures)
+    (not-called (answerOf (start .args .request)) buffer memory (reading .read .result) (machineIn buffer) (reading .read .ensures)
     (told .enum-told .given .1)))
 
 enum-told-2 : tie.Need-enum-told-2
 enum-told-2 c = search needs
 
-step-or-run-requires : tie.Need-step-or-run-requires
-step-or-run-requires c κs = search needs
+answer-requires : tie.Need-answer-requires
+answer-requires c κs = search needs
 
 keep-requires : tie.Need-keep-requires
 keep-requires c κs = search needs
@@ -85,8 +86,8 @@ returns-3 c =
     let buffer = start .args .«record» .now in
     let memory = lent (start .args .words .now) (start .args .labels .now) in
     when-long (untouched buffer memory) span buffer (long .before .is-short .ensures) (long .if1 .left)
-    (was-called (stepOrRun (start .args .once)) buffer memory (reading .read .result) (machineIn buffer)
-    (called .step-or-run .result) (reading .read .ensures) (found .enum-told2 .given .1) (called .step-or-run .ensures)
+    (was-called (answerOf (start .args .request)) buffer memory (reading .read .result) (machineIn buffer)
+    (called .answer .result) (reading .read .ensures) (found .enum-told2 .given .1) (called .answer .ensures)
     (c .number .ensures) (kept .keep .ensures))
 
 pub advanced-spec : {M : Type 1} → statement M
@@ -102,7 +103,7 @@ advanced-spec =
     same-length-2
     returns-2
     enum-told-2
-    step-or-run-requires
+    answer-requires
     keep-requires
     number-requires
     cast-result

@@ -1,20 +1,21 @@
 -- One step or a run carried out, as its function promises it.
 -- Assumes nothing.
-use Prim.Native.Nat.{ℕ}
+use Prim.Native.Nat.{ℕ, _+_, _-_}
 use mathlib.Core.Path.{_≡_}
-use mathlib.Core.Bool.{Bool, true, false}
 use mathlib.Core.List.{List}
-use Rattle.model.specs.Record.{State, machineOf, stateOf, lent}
-use Rattle.model.specs.Step.{step, run}
+use Rattle.model.specs.declared.Request.{Request}
+use Rattle.model.specs.declared.Request.the-variants.{Step, Run}
+use Rattle.model.specs.Record.{machineOf, stateOf, lent}
+use Rattle.model.specs.Answer.{work}
 use Rattle.machine.specs.declared.Machine.{Machine}
 use Rattle.machine.specs.Answered.{recordOf}
 
--- One step, or the run.
-abbrev pub stepped : Bool → State → State
-stepped true s = step s
-stepped false s = run s
+-- How many steps that is, at the most.
+abbrev pub countOf : Request → ℕ → ℕ → ℕ
+countOf Step limit clock = 1
+countOf Run limit clock = limit - clock + 1
 
--- One step or the run of this machine, carried out.
-pub record Carried (once : Bool) (m : Machine) (words labels : List ℕ) (r : Machine) (words′ labels′ : List ℕ) : Type 0 where
-  pub machine : recordOf r ≡ machineOf (stepped once (stateOf (recordOf m) (lent words labels)))
-  pub memory : lent words′ labels′ ≡ stepped once (stateOf (recordOf m) (lent words labels)) .memory
+-- What was asked for of this machine, carried out.
+pub record Carried (request : Request) (m : Machine) (words labels : List ℕ) (r : Machine) (words′ labels′ : List ℕ) : Type 0 where
+  pub machine : recordOf r ≡ machineOf (work request (stateOf (recordOf m) (lent words labels)))
+  pub memory : lent words′ labels′ ≡ work request (stateOf (recordOf m) (lent words labels)) .memory

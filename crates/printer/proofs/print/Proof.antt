@@ -19,8 +19,8 @@ memory-of start = lent (start .args .words .now) (start .args .labels .now)
 is-well-formed-requires : tie.Need-is-well-formed-requires
 is-well-formed-requires c κs = search needs
 
-is-whole-requires : tie.Need-is-whole-requires
-is-whole-requires c κs = search needs
+is-lent-whole-requires : tie.Need-is-lent-whole-requires
+is-lent-whole-requires c κs = search needs
 
 refused-requires : tie.Need-refused-requires
 refused-requires c κs = search needs
@@ -42,7 +42,7 @@ returns-2 c =
     let start = tested .before .before .before .before .before .before in
     rw (c .refused2 .ensures)
     (short-memory (record-of start) (memory-of start) _ _ (tested .before .is-well-formed .ensures) (not-false _ (fit .if1 .left))
-    _ (tested .is-whole .ensures) (not-true _ (c .before .if2 .taken)))
+    _ (tested .is-lent-whole .ensures) (not-true _ (c .before .if2 .taken)))
 
 print-whole-requires : tie.Need-print-whole-requires
 print-whole-requires c κs =
@@ -51,7 +51,7 @@ print-whole-requires c κs =
     let start = tested .before .before .before .before .before .before in
     lent-whole (record-of start) (memory-of start) (start .args .out .now) _
     (tested .before .is-well-formed .ensures) (not-false _ (fit .if1 .left)) _
-    (tested .is-whole .ensures) (not-false _ (c .before .if2 .left))
+    (tested .is-lent-whole .ensures) (not-false _ (c .before .if2 .left))
 
 same-length : tie.Need-same-length
 same-length c = search needs
@@ -63,14 +63,14 @@ returns-3 c =
     let tested = fit .before in
     let start = tested .before .before .before .before .before .before in
     whole (record-of start) (memory-of start) _ _ (tested .before .is-well-formed .ensures) (not-false _ (fit .if1 .left)) _
-    (tested .is-whole .ensures) (not-false _ (lent .if2 .left)) (c .before .before .print-whole .ensures)
+    (tested .is-lent-whole .ensures) (not-false _ (lent .if2 .left)) (c .before .before .print-whole .ensures)
 
 pub print-spec : {M : Type 1} → statement M
 print-spec =
     tie.close
     (tie.spec
     is-well-formed-requires
-    is-whole-requires
+    is-lent-whole-requires
     refused-requires
     returns
     refused-requires-2

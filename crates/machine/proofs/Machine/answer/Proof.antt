@@ -1,33 +1,29 @@
--- `machine::Machine::answer` meets its contract.
+-- `machine::Machine::answer` meets its contract: 7, then 6, then what was asked for.
 -- Assumes nothing.
-use mathlib.Core.Path.{_∙_, sym}
-use native.Mathlib.Omega.{arith}
+use mathlib.Core.Path.{_≡_, _∙_, sym}
+use mathlib.Core.Bool.{true}
 use borrow.Author.Needs.{needs}
-use denote.Ref.{now}
-use Rattle.machine.proofs.Whole.{answered-done, answered-short-words, answered-short-labels, answered-ill}
+use Rattle.model.specs.WellFormed.{wellFormed}
+use Rattle.machine.specs.Answered.{recordOf}
+use Rattle.machine.proofs.Whole.{answered-ill, answered-short, answered-done}
 use Rattle.machine.proofs.Machine.answer.Statement.{statement}
 use Rattle.machine.proofs.Machine.answer.Tie as tie
+
+-- The first test passed.
+well-formed : (c : tie.Then1) → wellFormed (recordOf (c .before .before .before .before .args .self)) ≡ true
+well-formed c = sym (c .before .is-well-formed .ensures) ∙ c .if1 .taken
 
 is-well-formed-requires : tie.Need-is-well-formed-requires
 is-well-formed-requires c κs = search needs
 
-length-of-requires : tie.Need-length-of-requires
-length-of-requires c κs = search needs
-
-refused-requires : tie.Need-refused-requires
-refused-requires c κs = search needs
-
-returns : tie.Need-returns
-returns c = rw (c .refused .ensures) (answered-short-words (c .before .before .before .before .before .before .before .before .args .once) (c .before .before .before .before .before .before .before .before .args .self) (now (c .before .before .before .before .before .before .before .before .args .words)) (now (c .before .before .before .before .before .before .before .before .args .labels)) (sym (c .before .before .before .before .before .is-well-formed .ensures) ∙ c .before .before .before .before .if1 .taken) (omega (arith, c .before .before .length-of .ensures, c .before .if2 .taken)))
-
-refused-requires-2 : tie.Need-refused-requires-2
-refused-requires-2 c κs = search needs
-
-returns-2 : tie.Need-returns-2
-returns-2 c = rw (c .refused2 .ensures) (answered-short-labels (c .before .before .before .before .before .before .before .before .before .args .once) (c .before .before .before .before .before .before .before .before .before .args .self) (now (c .before .before .before .before .before .before .before .before .before .args .words)) (now (c .before .before .before .before .before .before .before .before .before .args .labels)) (sym (c .before .before .before .before .before .before .is-well-formed .ensures) ∙ c .before .before .before .before .before .if1 .taken) (omega (arith, c .before .before .before .length-of .ensures, c .before .before .if2 .left)) (omega (arith, c .before .before .before .length-of .ensures, c .before .if3 .taken)))
+is-lent-whole-requires : tie.Need-is-lent-whole-requires
+is-lent-whole-requires c κs = search needs
 
 carried-requires : tie.Need-carried-requires
-carried-requires c κs = ((sym (c .before .before .before .before .before .before .before .is-well-formed .ensures) ∙ c .before .before .before .before .before .before .if1 .taken), omega (arith, c .before .before .before .before .length-of .ensures, c .before .before .before .if2 .left), omega (arith, c .before .before .before .before .length-of .ensures, c .before .before .if3 .left))
+carried-requires c κs =
+    let lent = c .before .before in
+    let tested = lent .before in
+    (well-formed (tested .before .before .before .before), sym (tested .is-lent-whole .ensures) ∙ lent .if2 .taken)
 
 same-length : tie.Need-same-length
 same-length c = search needs
@@ -35,28 +31,56 @@ same-length c = search needs
 same-length-2 : tie.Need-same-length-2
 same-length-2 c = search needs
 
+returns : tie.Need-returns
+returns c =
+    let done = c .before .before .before .before in
+    let lent = done .before .before .before in
+    let tested = lent .before in
+    answered-done _ _ _ _ (well-formed (tested .before .before .before .before)) (sym (tested .is-lent-whole .ensures) ∙ lent .if2 .taken)
+    (done .carried .ensures)
+
+refused-requires : tie.Need-refused-requires
+refused-requires c κs = search needs
+
+same-length-3 : tie.Need-same-length-3
+same-length-3 c = search needs
+
+same-length-4 : tie.Need-same-length-4
+same-length-4 c = search needs
+
+returns-2 : tie.Need-returns-2
+returns-2 c =
+    let tested = c .before .before in
+    let fit = tested .before .before .before .before in
+    let start = fit .before .before .before .before in
+    rw (c .refused .ensures)
+    (answered-short (start .args .request) (start .args .self) (start .args .words .now) (start .args .labels .now) (well-formed fit)
+    (sym (tested .is-lent-whole .ensures) ∙ c .before .if2 .left))
+
+refused-requires-2 : tie.Need-refused-requires-2
+refused-requires-2 c κs = search needs
+
 returns-3 : tie.Need-returns-3
-returns-3 c = answered-done (c .before .before .before .before .before .before .before .before .before .before .before .before .before .before .before .args .once) (c .before .before .before .before .before .before .before .before .before .before .before .before .before .before .before .args .self) (now (c .before .before .before .before .before .before .before .before .before .before .before .before .before .before .before .args .words)) (now (c .before .before .before .before .before .before .before .before .before .before .before .before .before .before .before .args .labels)) (sym (c .before .before .before .before .before .before .before .before .before .before .before .before .is-well-formed .ensures) ∙ c .before .before .before .before .before .before .before .before .before .before .before .if1 .taken) (omega (arith, c .before .before .before .before .before .before .before .before .before .length-of .ensures, c .before .before .before .before .before .before .before .before .if2 .left)) (omega (arith, c .before .before .before .before .before .before .before .before .before .length-of .ensures, c .before .before .before .before .before .before .before .if3 .left)) (c .before .before .before .before .carried .ensures)
-
-refused-requires-3 : tie.Need-refused-requires-3
-refused-requires-3 c κs = search needs
-
-returns-4 : tie.Need-returns-4
-returns-4 c = rw (c .refused3 .ensures) (answered-ill (c .before .before .before .before .before .args .once) (c .before .before .before .before .before .args .self) (now (c .before .before .before .before .before .args .words)) (now (c .before .before .before .before .before .args .labels)) (sym (c .before .before .is-well-formed .ensures) ∙ c .before .if1 .left))
+returns-3 c =
+    let tested = c .before .before in
+    let start = tested .before .before .before in
+    rw (c .refused2 .ensures)
+    (answered-ill (start .args .request) (start .args .self) (start .args .words .now) (start .args .labels .now)
+    (sym (tested .is-well-formed .ensures) ∙ c .before .if1 .left))
 
 pub answer-spec : {M : Type 1} → statement M
 answer-spec =
     tie.close
     (tie.spec
     is-well-formed-requires
-    length-of-requires
-    refused-requires
-    returns
-    refused-requires-2
-    returns-2
+    is-lent-whole-requires
     carried-requires
     same-length
     same-length-2
-    returns-3
-    refused-requires-3
-    returns-4)
+    returns
+    refused-requires
+    same-length-3
+    same-length-4
+    returns-2
+    refused-requires-2
+    returns-3)

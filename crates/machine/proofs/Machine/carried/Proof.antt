@@ -2,14 +2,18 @@
 -- Assumes nothing.
 use mathlib.Core.Path.{_∙_}
 use borrow.Author.Needs.{needs}
-use Rattle.machine.specs.Answered.{recordOf}
+use Rattle.model.specs.Record.{lent}
 use Rattle.engine.proofs.Driving.{advanced-there}
+use Rattle.machine.specs.Answered.{recordOf}
 use Rattle.machine.proofs.Whole.{clock-within, limit-within, ranges-of, carried-of}
 use Rattle.machine.proofs.Machine.carried.Statement.{statement}
 use Rattle.machine.proofs.Machine.carried.Tie as tie
 
 step-count-requires : tie.Need-step-count-requires
-step-count-requires c κs = (clock-within (recordOf (c .before .before .before .before .before .before .args .self)) (c .before .before .before .before .before .before .pre .0), limit-within (recordOf (c .before .before .before .before .before .before .args .self)) (c .before .before .before .before .before .before .pre .0))
+step-count-requires c κs =
+    let start = c .before .before .before .before .before .before in
+    let self = recordOf (start .args .self) in
+    (clock-within self (start .pre .0), limit-within self (start .pre .0))
 
 advance-requires : tie.Need-advance-requires
 advance-requires c κs = search needs
@@ -21,8 +25,13 @@ same-length-2 : tie.Need-same-length-2
 same-length-2 c = search needs
 
 returns : tie.Need-returns
-returns c = carried-of (c .before .before .before .before .before .before .before .step-count .ensures) (c .before .before .advance .ensures ∙ advanced-there _ _ _ (ranges-of (recordOf (c .before .before .before .before .before .before .before .before .before .before .before .before .before .before .args .self)) (c .before .before .before .before .before .before .before .before .before .before .before .before .before .before .pre .0) (c .before .before .before .before .before .before .before .before .before .before .before .before .before .before .pre .1) (c .before .before .before .before .before .before .before .before .before .before .before .before .before .before .pre .2)))
+returns c =
+    let counted = c .before .before .before .before .before .before .before in
+    let start = counted .before .before .before .before .before .before .before in
+    carried-of (counted .step-count .ensures)
+    (c .before .before .advance .ensures
+    ∙ advanced-there _ _ _
+    (ranges-of (recordOf (start .args .self)) (start .pre .0) (lent (start .args .words .now) (start .args .labels .now)) (start .pre .1)))
 
 pub carried-spec : {M : Type 1} → statement M
-carried-spec =
-    tie.close (tie.spec step-count-requires advance-requires same-length same-length-2 returns)
+carried-spec = tie.close (tie.spec step-count-requires advance-requires same-length same-length-2 returns)

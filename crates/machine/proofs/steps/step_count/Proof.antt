@@ -4,6 +4,12 @@ use borrow.Author.Needs.{needs}
 use Rattle.machine.proofs.steps.step_count.Statement.{statement}
 use Rattle.machine.proofs.steps.step_count.Tie as tie
 
+enum-told : tie.Need-enum-told
+enum-told c = search needs
+
+enum-told-2 : tie.Need-enum-told-2
+enum-told-2 c = search needs
+
 sub-result : tie.Need-sub-result
 sub-result c = search needs
 
@@ -11,10 +17,10 @@ add-result : tie.Need-add-result
 add-result c = search needs
 
 returns : tie.Need-returns
-returns c = search needs
+returns c = rw (c .enum-told .given .1)
 
 returns-2 : tie.Need-returns-2
-returns-2 c = rw (c .if1 .left)
+returns-2 c = rw (c .enum-told2 .given .1)
 
 pub step-count-spec : {M : Type 1} → statement M
-step-count-spec = tie.close (tie.spec sub-result add-result returns returns-2)
+step-count-spec = tie.close (tie.spec enum-told enum-told-2 sub-result add-result returns returns-2)
