@@ -1,4 +1,5 @@
-/* The labelled kiln machine: load, step, run and print over buffers that the caller lends, and the label rules.
+/* The labelled kiln machine: load, step, run and print over buffers that the caller lends, certificates, and the label
+ * rules.
  *
  * A call gets each buffer as a pointer and a length in elements. A pointer is aligned and not null, at length 0 too;
  * a buffer that a call may change overlaps no other one. Nothing is kept between calls. No call reads or writes behind
@@ -56,6 +57,20 @@ extern "C" {
 #define JENNYDUSK_WHY_LABEL 2
 #define JENNYDUSK_WHY_OP 3
 
+/* ---- the certificate: a buffer of at least so many words. What lies behind them is left. */
+#define JENNYDUSK_CERTIFICATE_SPAN 3
+
+#define JENNYDUSK_CAUSE 0 /* of the first break, or JENNYDUSK_NO_BREAK */
+#define JENNYDUSK_TICK 1  /* of the first break; 0 where there is none */
+#define JENNYDUSK_PLACE 2 /* its pc; 0 where there is none, or the pc is hidden */
+
+/* The causes of a break at a label: a step attempts to release to within it what is outside; a state is outside it, in no
+ * upcall, while a gate leads within; a state has its pc label within it and its timing label outside. */
+#define JENNYDUSK_NO_BREAK 0
+#define JENNYDUSK_RELEASE 1
+#define JENNYDUSK_AT_LARGE 2
+#define JENNYDUSK_TIMED_FROM_OUTSIDE 3
+
 /* ---- answers: a number, with a line or a length above it */
 #define JENNYDUSK_NUMBER(answer) ((unsigned)((answer) % 256))
 #define JENNYDUSK_COUNT(answer) ((size_t)((answer) / 256))
@@ -70,10 +85,12 @@ extern "C" {
 #define JENNYDUSK_NO_RECORD 7    /* the record is not well-formed, or the buffer holds none: a word is outside its
                                   * field's range, or a call's words are none */
 #define JENNYDUSK_SHORT_OUTPUT 8 /* the output is shorter than the listing */
-#define JENNYDUSK_SHORT_BUFFER 255 /* the record's buffer is shorter than JENNYDUSK_SPAN */
+#define JENNYDUSK_SHORT_BUFFER 255 /* the record's buffer is shorter than JENNYDUSK_SPAN, or the certificate's than
+                                    * JENNYDUSK_CERTIFICATE_SPAN */
 
-/* ---- the calls. A refused call leaves the record, words, labels and output as they were. Each of the four answers
- * JENNYDUSK_SHORT_BUFFER where the record's buffer is too short, before it reads anything. */
+/* ---- the calls. A refused call leaves the record, certificate, words, labels and output as they were. Each of the five
+ * answers JENNYDUSK_SHORT_BUFFER where the buffer of the record or the certificate is too short, before it reads
+ * anything. */
 
 /* Loads a text. The record goes to its buffer, the memory to words and labels below the size. Answers a number, 0 to 6
  * or 255, and 256 times the line that was refused. A load sets the words of the gates that no line names to 0. */
@@ -96,6 +113,17 @@ uint64_t jennydusk_run(uint64_t *record, size_t record_length, uint32_t *words, 
 /* Writes the listing at the start of the output. Answers 0 and 256 times the listing's length, or 6, 7, 8 or 255. */
 uint64_t jennydusk_print(const uint64_t *record, size_t record_length, const uint32_t *words, size_t words_length,
                          const uint8_t *labels, size_t labels_length, uint8_t *output, size_t output_length);
+
+/* Certifies a text at one label: loads it, and runs it to its end. The certificate goes to its buffer; words and labels
+ * hold what the run leaves. Answers a number, 0 to 6 or 255, and 256 times the line that was refused.
+ *
+ * With JENNYDUSK_NO_BREAK, nothing that is hidden from the label shows at it at any tick; with another cause, at none
+ * below JENNYDUSK_TICK. That holds for this text and for every other one of equal size, gates, error pc and limit that is
+ * alike at the label; those get the same certificate, so the secrets of this one may be any, or zeros. It is about ticks
+ * and not about real time, and about this label alone: another one wants a call of its own. Behind a break nothing is
+ * promised; it need not show anything either. */
+uint64_t jennydusk_certify(uint8_t label, const uint8_t *text, size_t text_length, uint32_t *words, size_t words_length,
+                           uint8_t *labels, size_t labels_length, uint64_t *certificate, size_t certificate_length);
 
 /* ---- labels: the byte i * 16 + c. The integrity i is the set of those by whom a thing is trusted, the confidentiality c
  * the set of those whose secrets it may hold. There are four principals, one bit each. Every byte is a label. */

@@ -1,14 +1,18 @@
 -- From what the functions below promise to what the calls promise.
 -- Assumes nothing.
 use Prim.Native.Nat.{ℕ, _^_, _≤_}
-use mathlib.Core.Path.{_≡_, refl, ap, _∙_}
+use mathlib.Core.Path.{_≡_, refl, sym, ap, _∙_}
 use mathlib.Core.Bool.{Bool, true, false}
-use mathlib.Core.List.{List}
+use mathlib.Core.List.{List, [], _∷_}
+use lib.ListN.{length, set}
+use lib.Seq.{sets-eq}
+use borrow.Author.Tests.{ltb-false}
 use Rattle.causes.specs.Causes.{numberOf}
 use Rattle.model.specs.Record.{Bank, Machine}
 use Rattle.model.specs.Answer as model
 use Rattle.model.specs.Load as loading
 use Rattle.model.specs.Listing as listing
+use Rattle.model.specs.Certificate as certificate
 use Rattle.model.proofs.Truth.{clash}
 use Rattle.machine.specs.declared.Answer as struct
 use Rattle.machine.specs.Answered.{recordOf, answered}
@@ -16,21 +20,28 @@ use Rattle.loader.specs.declared.Loaded.{Loaded}
 use Rattle.printer.specs.declared.Printed.{Printed}
 use Rattle.loader.specs.Load as load
 use Rattle.printer.specs.Printing as print
+use Rattle.certify.specs.declared.Certified.{Certified}
+use Rattle.certify.specs.Certified.{certificateOf, certifyingOf}
 use Rattle.decoder.specs.declared.Reading.{Reading}
 use Rattle.decoder.specs.declared.Found.the-variants as found
 use Rattle.decoder.specs.Held.{Holding, holds, nothing}
 use Rattle.decoder.specs.Reading.{Read, given, isFound, readOf}
-use Rattle.jennydusk.specs.Calls.{shortBuffer, noRecord, isShort, unlessShort, left, untouched, kept, afterAnswer, called, counted, afterLoading, shown, afterPrinting, unwritten, printed}
+use Rattle.jennydusk.specs.Calls.{shortBuffer, noRecord, isShort, unlessShort, left, untouched, kept, keptRecord, afterAnswer, called, counted, afterLoading, certificateSpan, holdingCertificate, afterCertifying, shown, afterPrinting, unwritten, printed}
 use Rattle.jennydusk.proofs.Length.{bytes-most}
 
--- ---- what all four calls try before everything else
+-- ---- what all five calls try before everything else
 
-module _ {A : Type 0} (refused : ℕ → A) (b : List ℕ) {test : Bool} (is : test ≡ isShort b) where
-  pub when-short : (answer : A) → test ≡ true → refused shortBuffer ≡ unlessShort refused b answer
+module _ {A : Type 0} (refused : ℕ → A) (least : ℕ) (b : List ℕ) {test : Bool} (is : test ≡ isShort least b) where
+  pub when-short : (answer : A) → test ≡ true → refused shortBuffer ≡ unlessShort refused least b answer
   when-short answer short = rw (← is, short) refl
 
-  pub when-long : {given answer : A} → test ≡ false → given ≡ answer → given ≡ unlessShort refused b answer
+  pub when-long : {given answer : A} → test ≡ false → given ≡ answer → given ≡ unlessShort refused least b answer
   when-long long same = rw (← is, long) same
+
+-- A buffer that is not short has so many words.
+pub is-long : (least : ℕ) (b : List ℕ) {test : Bool} → test ≡ isShort least b → test ≡ false → least ≤ length b
+unfolding isShort
+is-long least b is long = ltb-false (length b) least (sym is ∙ long)
 
 -- ---- what reading a buffer tells
 
@@ -56,7 +67,7 @@ module _ (f : Machine → Bank → model.Answer) (b : List ℕ) (m : Bank) (x : 
   pub was-called :
       (h : Holding) (a : struct.Answer) {number : ℕ} {buffer words labels : List ℕ} → readOf x ≡ given h
       → x .found ≡ found.Record → answered a words labels ≡ f (recordOf (x .machine)) m → number ≡ numberOf (a .outcome)
-      → buffer ≡ kept (a .outcome) (recordOf (a .machine)) b → left number buffer words labels ≡ called f h b m
+      → buffer ≡ keptRecord (a .outcome) (recordOf (a .machine)) b → left number buffer words labels ≡ called f h b m
   was-called (holds r) a {number} {buffer} {words} {labels} e n s c k =
       rw (k, c) (ap (λ (z : model.Answer). afterAnswer z b) (s ∙ ap (λ (y : Machine). f y m) (same-record x e)))
   was-called nothing a e n s c k = some-record x e n
@@ -67,9 +78,25 @@ module _ (f : Machine → Bank → model.Answer) (b : List ℕ) (m : Bank) (x : 
 pub was-loaded :
     (text : List ℕ) (m : Bank) (b : List ℕ) (a : Loaded) {number line answer : ℕ} {buffer words labels : List ℕ}
     → load.loadingOf a words labels ≡ loading.load text m → number ≡ numberOf (a .outcome) → line ≡ a .line
-    → buffer ≡ kept (a .outcome) (recordOf (a .machine)) b → answer ≡ counted number line
+    → buffer ≡ keptRecord (a .outcome) (recordOf (a .machine)) b → answer ≡ counted number line
     → left answer buffer words labels ≡ afterLoading (loading.load text m) b
 was-loaded text m b a e n l k c = rw (k, c, n, l) (ap (λ (z : loading.Loading). afterLoading z b) e)
+
+-- ---- certify
+
+-- A certificate's words, stored one by one.
+pub words-stored :
+    (b : List ℕ) (c : certificate.Certificate) → certificateSpan ≤ length b
+    → set (set (set b 0 (c .cause)) 1 (c .tick)) 2 (c .place) ≡ holdingCertificate c b
+words-stored b c h = sets-eq (c .cause ∷ c .tick ∷ c .place ∷ []) b 0 h
+
+-- A buffer that is long enough.
+pub was-certified :
+    (ℓ : ℕ) (text : List ℕ) (m : Bank) (b : List ℕ) (a : Certified) {number line answer : ℕ} {buffer words labels : List ℕ}
+    → certifyingOf a words labels ≡ certificate.certifying ℓ text m → number ≡ numberOf (a .outcome) → line ≡ a .line
+    → buffer ≡ kept (a .outcome) (holdingCertificate (certificateOf (a .certificate)) b) b → answer ≡ counted number line
+    → left answer buffer words labels ≡ afterCertifying (certificate.certifying ℓ text m) b
+was-certified ℓ text m b a e n l k c = rw (k, c, n, l) (ap (λ (z : certificate.Certifying). afterCertifying z b) e)
 
 -- ---- print
 

@@ -1,12 +1,12 @@
--- What each call over a record answers and leaves, for every buffer and every length. A record stands in a buffer as the
--- crates encoder and decoder have it. The numbers are those of document 01's table, and two more: 0 where nothing was
--- refused, 255 for a record's buffer that is too short.
+-- What each call over a record answers and leaves, and the call that certifies, for every buffer and every length. A record
+-- stands in a buffer as the crates encoder and decoder have it. The numbers are those of document 01's table, and two more:
+-- 0 where nothing was refused, 255 for a record's or a certificate's buffer that is too short.
 -- Assumes nothing.
 use Prim.Native.Nat.{ℕ, _+_, _*_}
 use mathlib.Core.Bool.{Bool, true, false, cond}
-use mathlib.Core.List.{List}
+use mathlib.Core.List.{List, _∷_}
 use lib.Dec.{ltb}
-use lib.ListN.{length}
+use lib.ListN.{length, drop}
 use Rattle.causes.specs.declared.Cause.the-variants.{IllFormed}
 use Rattle.causes.specs.declared.Outcome.{Outcome}
 use Rattle.causes.specs.declared.Outcome.the-variants.{Done, Refused}
@@ -15,6 +15,7 @@ use Rattle.model.specs.Record.{Bank, Machine}
 use Rattle.model.specs.Answer.{Answer, stepAnswer, runAnswer}
 use Rattle.model.specs.Load.{Loading, load}
 use Rattle.model.specs.Listing.{Printing, print}
+use Rattle.model.specs.Certificate.{Certificate, Certifying, certifying}
 use Rattle.encoder.specs.Places.{span}
 use Rattle.encoder.specs.Writing.{write}
 use Rattle.decoder.specs.Held.{Holding, holds, nothing, machineIn}
@@ -25,7 +26,7 @@ use Rattle.decoder.specs.Held.{Holding, holds, nothing, machineIn}
 abbrev pub noRecord : ℕ
 noRecord = numberOf (Refused IllFormed)
 
--- A record's buffer is shorter than a record. The table has no such number.
+-- A buffer is shorter than the record or the certificate that it is lent for. The table has no such number.
 abbrev pub shortBuffer : ℕ
 shortBuffer = 255
 
@@ -37,19 +38,19 @@ numbers = 256
 abbrev pub counted : ℕ → ℕ → ℕ
 counted number count = number + numbers * count
 
--- ---- what all four calls try before everything else
+-- ---- what all five calls try before everything else
 
--- A buffer is shorter than a record.
-unfoldable pub isShort : List ℕ → Bool
-isShort b = ltb (length b) span
+-- A buffer is shorter than so many words.
+unfoldable pub isShort : ℕ → List ℕ → Bool
+isShort least b = ltb (length b) least
 
--- Where the record's buffer is too short the call is refused, whatever else it was given.
-abbrev pub unlessShort : {A : Type 0} → (ℕ → A) → List ℕ → A → A
-unlessShort refused b answer = cond (isShort b) (refused shortBuffer) answer
+-- Where the buffer is shorter than so many words the call is refused, whatever else it was given.
+abbrev pub unlessShort : {A : Type 0} → (ℕ → A) → ℕ → List ℕ → A → A
+unlessShort refused least b answer = cond (isShort least b) (refused shortBuffer) answer
 
 -- ---- calls that may change a record: load, step, run
 
--- The answer, the record's buffer at exit, and the lent memory at exit.
+-- The answer, the buffer at exit, and the lent memory at exit.
 pub record Left : Type 0 where
   pub answer : ℕ
   pub buffer : List ℕ
@@ -64,15 +65,19 @@ left answer buffer words labels =
 abbrev pub untouched : List ℕ → Bank → ℕ → Left
 untouched b m answer = record { answer = answer; buffer = b; memory = m }
 
--- The buffer after a call with this outcome: the record is written, unless the call was refused.
-abbrev pub kept : Outcome → Machine → List ℕ → List ℕ
-kept Done r b = write r b .buffer
-kept (Refused cause) r b = b
+-- The buffer after a call with this outcome: it is written so, unless the call was refused.
+abbrev pub kept : Outcome → List ℕ → List ℕ → List ℕ
+kept Done written b = written
+kept (Refused cause) written b = b
+
+-- The same where a record is what is written.
+abbrev pub keptRecord : Outcome → Machine → List ℕ → List ℕ
+keptRecord outcome r b = kept outcome (write r b .buffer) b
 
 -- After the answer of step or run.
 abbrev pub afterAnswer : Answer → List ℕ → Left
 afterAnswer a b =
-    record { answer = numberOf (a .outcome); buffer = kept (a .outcome) (a .machine) b; memory = a .memory }
+    record { answer = numberOf (a .outcome); buffer = keptRecord (a .outcome) (a .machine) b; memory = a .memory }
 
 -- Step or run of what a buffer holds.
 abbrev pub called : (Machine → Bank → Answer) → Holding → List ℕ → Bank → Left
@@ -81,7 +86,7 @@ called f (holds r) b m = afterAnswer (f r m) b
 
 -- Step or run of a buffer.
 unfoldable pub recordCall : (Machine → Bank → Answer) → List ℕ → Bank → Left
-recordCall f b m = unlessShort (untouched b m) b (called f (machineIn b) b m)
+recordCall f b m = unlessShort (untouched b m) span b (called f (machineIn b) b m)
 
 -- jennydusk_step.
 unfoldable pub stepCall : List ℕ → Bank → Left
@@ -96,13 +101,36 @@ abbrev pub afterLoading : Loading → List ℕ → Left
 afterLoading a b =
     record {
       answer = counted (numberOf (a .outcome)) (a .line);
-      buffer = kept (a .outcome) (a .machine) b;
+      buffer = keptRecord (a .outcome) (a .machine) b;
       memory = a .memory;
     }
 
 -- jennydusk_load.
 unfoldable pub loadCall : List ℕ → Bank → List ℕ → Left
-loadCall text m b = unlessShort (untouched b m) b (afterLoading (load text m) b)
+loadCall text m b = unlessShort (untouched b m) span b (afterLoading (load text m) b)
+
+-- ---- certify, which loads and runs a text and writes a certificate
+
+-- How many words a certificate takes.
+abbrev pub certificateSpan : ℕ
+certificateSpan = 3
+
+-- The buffer with a certificate's words at its start: cause, tick and place.
+abbrev pub holdingCertificate : Certificate → List ℕ → List ℕ
+holdingCertificate c b = c .cause ∷ c .tick ∷ c .place ∷ drop certificateSpan b
+
+-- After the answer of certify: its number and line.
+abbrev pub afterCertifying : Certifying → List ℕ → Left
+afterCertifying a b =
+    record {
+      answer = counted (numberOf (a .outcome)) (a .line);
+      buffer = kept (a .outcome) (holdingCertificate (a .certificate) b) b;
+      memory = a .memory;
+    }
+
+-- jennydusk_certify.
+unfoldable pub certifyCall : ℕ → List ℕ → Bank → List ℕ → Left
+certifyCall ℓ text m b = unlessShort (untouched b m) certificateSpan b (afterCertifying (certifying ℓ text m) b)
 
 -- ---- print, which changes the output alone
 
@@ -130,7 +158,7 @@ printed (holds r) m out = afterPrinting (print r m out)
 
 -- jennydusk_print.
 unfoldable pub printCall : List ℕ → Bank → List ℕ → Shown
-printCall b m out = unlessShort (unwritten out) b (printed (machineIn b) m out)
+printCall b m out = unlessShort (unwritten out) span b (printed (machineIn b) m out)
 
 -- ======== Here ends what the public promises cite.
 

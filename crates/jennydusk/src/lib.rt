@@ -1,6 +1,6 @@
 // The machine for programs in other languages: load, step, run and print over buffers that the caller lends. A record
 // stands in a buffer of 64-bit words, as the crates encoder and decoder have it. Nothing is kept between calls. The
-// module label_calls has the label rules for them.
+// module certify_call has certificates for them, label_calls the label rules.
 use causes::Cause;
 use causes::Outcome;
 use decoder::Found;
@@ -11,21 +11,25 @@ use printer::print;
 ghost use Prim.Native.Nat.{_≤_, _^_};
 ghost use mathlib.Core.Path.{_≡_};
 ghost use Rattle.machine.specs.Answered.{recordOf, answered, lent};
-ghost use Rattle.jennydusk.specs.Calls.{isShort, noRecord, left, kept, counted, recordCall, shown, loadCall, stepCall, runCall, printCall, stepOrRun};
+ghost use Rattle.jennydusk.specs.Calls.{isShort, noRecord, left, keptRecord, counted, recordCall, shown, loadCall, stepCall, runCall, printCall, stepOrRun};
 
+mod certify_call;
 mod label_calls;
 
-// The answer where the buffer is shorter than a record.
+// How many words a record takes.
+const RECORD_SPAN: usize = encoder::SPAN;
+
+// The answer where a buffer is shorter than the record or the certificate that it is lent for.
 const SHORT_BUFFER: u64 = 255;
 
 // A number is below this one; a line or a length stands above it.
 const NUMBERS: u64 = 256;
 
-// Whether a buffer is shorter than a record. Each call tries this before everything else.
-fn is_short(record: &[u64]) -> bool
-    ensures { λ r. ⌜ r ≡ isShort (now («record» .entry)) ⌝ }
+// Whether a buffer is shorter than so many words. Each call tries this before everything else.
+pub(in crate) fn is_short(buffer: &[u64], least: usize) -> bool
+    ensures { λ r. ⌜ r ≡ isShort least (now (buffer .entry)) ⌝ }
 {
-    record.len() < encoder::SPAN
+    buffer.len() < least
 }
 
 // The answer where the buffer holds no record: that of a record that is not well-formed.
@@ -37,7 +41,7 @@ fn no_record() -> u64
 
 // Writes the record, unless the call with this outcome was refused.
 fn keep(outcome: Outcome, machine: Machine, record: &mut [u64])
-    ensures { λ r. ⌜ now («record» .exit) ≡ kept outcome (recordOf machine) (now («record» .entry)) ⌝ }
+    ensures { λ r. ⌜ now («record» .exit) ≡ keptRecord outcome (recordOf machine) (now («record» .entry)) ⌝ }
 {
     if let Outcome::Done = outcome {
         encoder::write(machine, record);
@@ -45,7 +49,7 @@ fn keep(outcome: Outcome, machine: Machine, record: &mut [u64])
 }
 
 // A number and a count in one answer.
-fn counted(number: u64, count: u64) -> u64
+pub(in crate) fn counted(number: u64, count: u64) -> u64
     requires { ⌜ (number ≤ 255) × (count ≤ 2 ^ 32) ⌝ }
     ensures { λ r. ⌜ r ≡ counted number count ⌝ }
 {
@@ -62,7 +66,7 @@ pub extern "C" fn jennydusk_load(
 ) -> u64
     ensures { λ r. ⌜ left r (now («record» .exit)) (now (words .exit)) (now (labels .exit)) ≡ loadCall (now (text .entry)) (lent (now (words .entry)) (now (labels .entry))) (now («record» .entry)) ⌝ }
 {
-    if is_short(record) {
+    if is_short(record, RECORD_SPAN) {
         return SHORT_BUFFER;
     }
     let loaded = load(text, words, labels);
@@ -88,7 +92,7 @@ fn step_or_run(once: bool, machine: Machine, words: &mut [u32], labels: &mut [u8
 fn advanced(once: bool, record: &mut [u64], words: &mut [u32], labels: &mut [u8]) -> u64
     ensures { λ r. ⌜ left r (now («record» .exit)) (now (words .exit)) (now (labels .exit)) ≡ recordCall (stepOrRun once) (now («record» .entry)) (lent (now (words .entry)) (now (labels .entry))) ⌝ }
 {
-    if is_short(record) {
+    if is_short(record, RECORD_SPAN) {
         return SHORT_BUFFER;
     }
     let reading = decoder::read(record);
@@ -130,7 +134,7 @@ pub extern "C" fn jennydusk_print(
 ) -> u64
     ensures { λ r. ⌜ shown r (now (out .exit)) ≡ printCall (now («record» .entry)) (lent (now (words .entry)) (now (labels .entry))) (now (out .entry)) ⌝ }
 {
-    if is_short(record) {
+    if is_short(record, RECORD_SPAN) {
         return SHORT_BUFFER;
     }
     let reading = decoder::read(record);

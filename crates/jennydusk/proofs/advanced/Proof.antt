@@ -4,6 +4,7 @@ use borrow.Author.Needs.{needs}
 use Rattle.machine.specs.Answered.{lent}
 use Rattle.decoder.specs.Held.{machineIn}
 use Rattle.decoder.specs.Reading as reading
+use Rattle.encoder.specs.Places.{span}
 use Rattle.jennydusk.specs.Calls.{untouched, recordCall, stepOrRun}
 use Rattle.jennydusk.proofs.Laws.{when-short, when-long, not-called, was-called}
 use Rattle.jennydusk.proofs.advanced.Statement.{statement}
@@ -19,7 +20,7 @@ returns : tie.Need-returns
 unfolding recordCall
 returns c =
     let start = c .before .before .before .before .before .before in
-    when-short (untouched (start .args .«record» .now) (lent (start .args .words .now) (start .args .labels .now)))
+    when-short (untouched (start .args .«record» .now) (lent (start .args .words .now) (start .args .labels .now))) span
     (start .args .«record» .now) (c .before .is-short .ensures) _ (c .if1 .taken)
 
 read-requires : tie.Need-read-requires
@@ -43,7 +44,7 @@ returns-2 c =
     let start = long .before .before .before .before .before .before in
     let buffer = start .args .«record» .now in
     let memory = lent (start .args .words .now) (start .args .labels .now) in
-    when-long (untouched buffer memory) buffer (long .before .is-short .ensures) (long .if1 .left)
+    when-long (untouched buffer memory) span buffer (long .before .is-short .ensures) (long .if1 .left)
     (rw (c .no-record .ensures)
     (not-called (stepOrRun (start .args .once)) buffer memory (reading .read .result) (machineIn buffer) (reading .read .ensures)
     (told .enum-told .given .1)))
@@ -83,7 +84,7 @@ returns-3 c =
     let start = long .before .before .before .before .before .before in
     let buffer = start .args .«record» .now in
     let memory = lent (start .args .words .now) (start .args .labels .now) in
-    when-long (untouched buffer memory) buffer (long .before .is-short .ensures) (long .if1 .left)
+    when-long (untouched buffer memory) span buffer (long .before .is-short .ensures) (long .if1 .left)
     (was-called (stepOrRun (start .args .once)) buffer memory (reading .read .result) (machineIn buffer)
     (called .step-or-run .result) (reading .read .ensures) (found .enum-told2 .given .1) (called .step-or-run .ensures)
     (c .number .ensures) (kept .keep .ensures))

@@ -3,6 +3,7 @@
 use mathlib.Core.Path.{refl}
 use borrow.Author.Needs.{needs}
 use Rattle.machine.specs.Answered.{lent}
+use Rattle.encoder.specs.Places.{span}
 use Rattle.jennydusk.specs.Calls.{untouched, loadCall}
 use Rattle.jennydusk.proofs.Laws.{when-short, when-long, was-loaded}
 use Rattle.jennydusk.proofs.jennydusk_load.Statement.{statement}
@@ -18,7 +19,7 @@ returns : tie.Need-returns
 unfolding loadCall
 returns c =
     let start = c .before .before .before .before .before .before .before in
-    when-short (untouched (start .args .«record» .now) (lent (start .args .words .now) (start .args .labels .now)))
+    when-short (untouched (start .args .«record» .now) (lent (start .args .words .now) (start .args .labels .now))) span
     (start .args .«record» .now) (c .before .is-short .ensures) _ (c .if1 .taken)
 
 load-requires : tie.Need-load-requires
@@ -58,7 +59,7 @@ returns-2 c =
     let start = long .before .before .before .before .before .before .before in
     let buffer = start .args .«record» .now in
     let memory = lent (start .args .words .now) (start .args .labels .now) in
-    when-long (untouched buffer memory) buffer (long .before .is-short .ensures) (long .if1 .left)
+    when-long (untouched buffer memory) span buffer (long .before .is-short .ensures) (long .if1 .left)
     (was-loaded (start .args .text .now) memory buffer (loading .load .result) (loading .load .ensures) (judged .number .ensures)
     refl (kept .keep .ensures) (c .counted .ensures))
 

@@ -7,6 +7,7 @@ use Rattle.causes.proofs.Numbers.{small-number}
 use Rattle.machine.specs.Answered.{recordOf, lent}
 use Rattle.decoder.specs.Held.{machineIn}
 use Rattle.decoder.specs.Reading as reading
+use Rattle.encoder.specs.Places.{span}
 use Rattle.jennydusk.specs.Calls.{unwritten, printCall}
 use Rattle.jennydusk.proofs.Laws.{when-short, when-long, small-length, not-printed, was-printed}
 use Rattle.jennydusk.proofs.jennydusk_print.Statement.{statement}
@@ -19,7 +20,7 @@ returns : tie.Need-returns
 unfolding printCall
 returns c =
     let start = c .before .before .before .before .before .before in
-    when-short (unwritten (start .args .out .now)) (start .args .«record» .now) (c .before .is-short .ensures) _ (c .if1 .taken)
+    when-short (unwritten (start .args .out .now)) span (start .args .«record» .now) (c .before .is-short .ensures) _ (c .if1 .taken)
 
 read-requires : tie.Need-read-requires
 read-requires c κs = search needs
@@ -39,7 +40,7 @@ returns-2 c =
     let start = long .before .before .before .before .before .before in
     let buffer = start .args .«record» .now in
     let output = start .args .out .now in
-    when-long (unwritten output) buffer (long .before .is-short .ensures) (long .if1 .left)
+    when-long (unwritten output) span buffer (long .before .is-short .ensures) (long .if1 .left)
     (rw (c .no-record .ensures)
     (not-printed (lent (start .args .words .now) (start .args .labels .now)) output (reading .read .result) (machineIn buffer)
     (reading .read .ensures) (told .enum-told .given .1)))
@@ -79,7 +80,7 @@ returns-3 c =
     let start = long .before .before .before .before .before .before in
     let buffer = start .args .«record» .now in
     let output = start .args .out .now in
-    when-long (unwritten output) buffer (long .before .is-short .ensures) (long .if1 .left)
+    when-long (unwritten output) span buffer (long .before .is-short .ensures) (long .if1 .left)
     (was-printed (lent (start .args .words .now) (start .args .labels .now)) output (reading .read .result) (machineIn buffer)
     (written .print .result) (reading .read .ensures) (found .enum-told2 .given .1) (written .print .ensures)
     (c .before .number .ensures) refl (c .counted .ensures))
