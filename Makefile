@@ -1,4 +1,4 @@
-# make                    the programs firing and kiln, and the library to link, in target/
+# make                    the programs firing, certifying and kiln, and the library to link, in target/
 # make test               every test; the last line is 'N passed, 0 failed'
 # make install PREFIX=DIR puts programs, header, library, man pages and examples in place; DESTDIR is put before
 PREFIX = /usr/local
@@ -10,7 +10,8 @@ RT = rt
 
 crates := crates.txt $(shell find crates -name '*.rt' -o -name '*.antt')
 kiln := VERSION $(shell find tools/kiln -name target -prune -o \( -name '*.rs' -o -name 'Cargo.*' \) -print)
-firing_program := target/bin/firing
+# Programs that rt builds, each of the crate of its name, and kiln, which cargo does.
+proved_programs := target/bin/firing target/bin/certifying
 kiln_program := target/bin/kiln
 archive := target/staticlib/libjennydusk.a
 
@@ -24,11 +25,11 @@ root := $(DESTDIR)$(prefix)
 .PHONY: all test install
 # rt builds one thing at a time.
 .NOTPARALLEL:
-all: $(firing_program) $(kiln_program) $(archive)
+all: $(proved_programs) $(kiln_program) $(archive)
 
 # What is up to date already keeps its time when it is checked again, so it gets a new one.
-$(firing_program): $(crates)
-	$(RT) check firing
+$(proved_programs): $(crates)
+	$(RT) check $(@F)
 	touch $@
 
 $(archive): $(crates)
@@ -47,7 +48,7 @@ test:
 install: all
 	$(INSTALL) -d '$(root)/bin' '$(root)/include' '$(root)/lib/pkgconfig' '$(root)/share/man/man1' \
 	    '$(root)/share/man/man5' '$(root)/share/jennydusk/examples/c' '$(root)/share/jennydusk/examples/rust'
-	$(INSTALL) -m 755 $(firing_program) $(kiln_program) '$(root)/bin'
+	$(INSTALL) -m 755 $(proved_programs) $(kiln_program) '$(root)/bin'
 	$(INSTALL) -m 644 include/jennydusk.h '$(root)/include'
 	$(INSTALL) -m 644 $(archive) '$(root)/lib'
 	sed -e 's|@PREFIX@|$(prefix)|' -e 's|@VERSION@|$(VERSION)|' jennydusk.pc.in >'$(root)/lib/pkgconfig/jennydusk.pc'

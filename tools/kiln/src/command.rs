@@ -1,7 +1,9 @@
 //! The command line: the commands, what each takes, and its help.
 
 use crate::asm::asm;
+use crate::certify::certify;
 use crate::dis::dis;
+use crate::labels;
 use crate::run::run;
 use crate::status::{Failure, Status};
 use crate::trace::trace;
@@ -17,17 +19,19 @@ pub struct Arguments {
     pub listing: bool,
     /// asm's -D, each as given.
     pub definitions: Vec<String>,
-    /// trace's --as.
-    pub label: Option<String>,
+    /// The label at which one looks: trace's --as, or certify's LABEL.
+    pub label: Option<u8>,
 }
 
 /// An option, and the value that hangs on it.
 type Given<'a> = (&'static str, Option<&'a str>);
 
-/// A command: its name, the options that it takes, and what it does.
+/// A command: its name, the options that it takes, whether a label stands behind
+/// its file, and what it does.
 pub struct Command {
     pub name: &'static str,
     options: &'static [&'static str],
+    takes_label: bool,
     pub usage: &'static str,
     pub help: &'static str,
     pub act: fn(&Arguments) -> Result<Status, Failure>,
@@ -37,16 +41,17 @@ const OUTPUT: &str = "-o";
 const LISTING: &str = "-l";
 const DEFINITION: &str = "-D";
 const LABEL: &str = "--as";
-/// Behind it every argument is a file's name.
+/// Behind it no argument is an option.
 const NO_MORE_OPTIONS: &str = "--";
 
 pub const HELP: &str = "--help";
 pub const SHORT_HELP: &str = "-h";
 
-pub const COMMANDS: [Command; 4] = [
+pub const COMMANDS: [Command; 5] = [
     Command {
         name: "asm",
         options: &[OUTPUT, LISTING, DEFINITION],
+        takes_label: false,
         usage: "kiln asm FILE [-o IMAGE] [-l] [-D NAME=VALUE]...",
         help: "\
 Makes the image of a source. Errors say FILE:LINE:COLUMN, all of them.
@@ -60,6 +65,7 @@ kiln-source(5) tells the language.
     Command {
         name: "dis",
         options: &[OUTPUT],
+        takes_label: false,
         usage: "kiln dis IMAGE [-o FILE]",
         help: "\
 Writes a source of an image; asm makes the same image of it, to the byte.
@@ -70,6 +76,7 @@ Writes a source of an image; asm makes the same image of it, to the byte.
     Command {
         name: "run",
         options: &[OUTPUT],
+        takes_label: false,
         usage: "kiln run IMAGE [-o LISTING]",
         help: "\
 Runs an image to its end and writes the listing.
@@ -81,6 +88,7 @@ Exit status: 0 halted, 1 clock spent or stalled, 2 refused, 3 input or output fa
     Command {
         name: "trace",
         options: &[LABEL],
+        takes_label: false,
         usage: "kiln trace IMAGE [--as LABEL]",
         help: "\
 Runs an image and tells each step: the tick at which it finishes, its pc, its op
@@ -89,6 +97,19 @@ and what it changes. A ! marks a step without effect.
               a number 0 to 255, or two sets of bits, trust and secrecy: {2|2}
 ",
         act: trace,
+    },
+    Command {
+        name: "certify",
+        options: &[],
+        takes_label: true,
+        usage: "kiln certify IMAGE LABEL",
+        help: "\
+Runs an image and tells up to which tick nothing of what is hidden at this label can
+show there, whatever the hidden registers and words hold, and what ends it then.
+LABEL is a number 0 to 255, or two sets of bits, trust and secrecy: {2|2}
+Exit status: 0 to the end, 1 up to a tick, 2 refused, 3 input or output failed.
+",
+        act: certify,
     },
 ];
 
@@ -106,12 +127,12 @@ impl Command {
     /// Reads what stands behind the command's name.
     pub fn read(&self, given: &[String]) -> Result<Arguments, String> {
         let mut arguments = Arguments::default();
-        let mut files = Vec::new();
+        let mut operands = Vec::new();
         let mut rest = given.iter();
         while let Some(argument) = rest.next() {
             match self.option(argument)? {
-                None if argument == NO_MORE_OPTIONS => files.extend(rest.by_ref()),
-                None => files.push(argument),
+                None if argument == NO_MORE_OPTIONS => operands.extend(rest.by_ref()),
+                None => operands.push(argument),
                 Some((LISTING, _)) => arguments.listing = true,
                 Some((option, value)) => {
                     let value = value.or_else(|| rest.next().map(String::as_str));
@@ -120,8 +141,22 @@ impl Command {
                 }
             }
         }
-        arguments.file = the_file(&files)?;
+        self.place(&operands, &mut arguments)?;
         Ok(arguments)
+    }
+
+    /// Takes what is no option: the file, and the label of a command with one.
+    fn place(&self, operands: &[&String], arguments: &mut Arguments) -> Result<(), String> {
+        let mut rest = operands.iter();
+        let file = rest.next().ok_or("a file is missing; - is standard input")?;
+        arguments.file = file.to_string();
+        if self.takes_label {
+            arguments.label = Some(label(rest.next().ok_or("a label is missing")?)?);
+        }
+        match rest.next() {
+            None => Ok(()),
+            Some(more) => Err(format!("one argument too many: {more}")),
+        }
     }
 
     /// The option that an argument is, with the value that hangs on it, as in
@@ -150,25 +185,22 @@ fn value<'a>(option: &str, argument: &'a str) -> Option<Option<&'a str>> {
 
 impl Arguments {
     fn set(&mut self, option: &str, value: &str) -> Result<(), String> {
-        let place = match option {
-            OUTPUT => &mut self.output,
-            LABEL => &mut self.label,
+        let is_new = match option {
+            OUTPUT => self.output.replace(value.to_string()).is_none(),
+            LABEL => self.label.replace(label(value)?).is_none(),
             _ => {
                 self.definitions.push(value.to_string());
-                return Ok(());
+                true
             }
         };
-        match place.replace(value.to_string()) {
-            None => Ok(()),
-            Some(_) => Err(format!("{option} is given twice")),
+        match is_new {
+            true => Ok(()),
+            false => Err(format!("{option} is given twice")),
         }
     }
 }
 
-fn the_file(files: &[&String]) -> Result<String, String> {
-    match files {
-        [] => Err("a file is missing; - is standard input".to_string()),
-        [file] => Ok(file.to_string()),
-        [_, more, ..] => Err(format!("one file too many: {more}")),
-    }
+fn label(text: &str) -> Result<u8, String> {
+    let wanted = "a number 0 to 255, or two sets of bits as {2|2}";
+    labels::parse(text).ok_or_else(|| format!("{text} is no label: {wanted}"))
 }

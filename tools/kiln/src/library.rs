@@ -20,6 +20,12 @@ pub const WHY_OP: u64 = 3;
 /// The kind of a call that is an upcall.
 pub const UPCALL: u64 = 2;
 
+/// The causes of a certificate's first break.
+pub const NO_BREAK: u64 = 0;
+pub const RELEASE: u64 = 1;
+pub const AT_LARGE: u64 = 2;
+pub const TIMED_FROM_OUTSIDE: u64 = 3;
+
 /// The record's layout: the place of each field in its buffer.
 mod place {
     pub const SPAN: usize = 76;
@@ -39,6 +45,14 @@ mod place {
     pub const LABELS: usize = 60;
 }
 
+/// A certificate's layout.
+mod certificate {
+    pub const SPAN: usize = 3;
+    pub const CAUSE: usize = 0;
+    pub const TICK: usize = 1;
+    pub const PLACE: usize = 2;
+}
+
 /// An answer is a number, with a line or a length above it.
 const NUMBERS: u64 = 256;
 const DONE: u64 = 0;
@@ -52,6 +66,7 @@ extern "C" {
     fn jennydusk_step(record: *mut u64, record_length: usize, words: *mut u32, words_length: usize, labels: *mut u8, labels_length: usize) -> u64;
     fn jennydusk_run(record: *mut u64, record_length: usize, words: *mut u32, words_length: usize, labels: *mut u8, labels_length: usize) -> u64;
     fn jennydusk_print(record: *const u64, record_length: usize, words: *const u32, words_length: usize, labels: *const u8, labels_length: usize, output: *mut u8, output_length: usize) -> u64;
+    fn jennydusk_certify(label: u8, text: *const u8, text_length: usize, words: *mut u32, words_length: usize, labels: *mut u8, labels_length: usize, certificate: *mut u64, certificate_length: usize) -> u64;
     fn jennydusk_flows(from: u8, to: u8) -> bool;
 }
 
@@ -85,6 +100,15 @@ pub struct Cell {
     pub value: u32,
 }
 
+/// The first break of a certificate: its cause, its tick, and its place, which is
+/// 0 where it is out of sight.
+#[derive(Clone, Copy, Debug, PartialEq, Eq)]
+pub struct Certificate {
+    pub cause: u64,
+    pub tick: u64,
+    pub place: usize,
+}
+
 /// A machine: its record, and memory as long as a machine can need.
 #[derive(Debug)]
 pub struct Machine {
@@ -114,7 +138,7 @@ impl Machine {
         let mut machine = Machine { record: [0; place::SPAN], words: vec![0; WORDS], labels: vec![0; WORDS] };
         let Machine { record, words, labels } = &mut machine;
         let answer = unsafe { jennydusk_load(text.as_ptr(), text.len(), words.as_mut_ptr(), words.len(), labels.as_mut_ptr(), labels.len(), record.as_mut_ptr(), record.len()) };
-        if answer == DONE { Ok(machine) } else { Err(Refusal { number: (answer % NUMBERS) as u8, line: (answer / NUMBERS) as usize }) }
+        if answer == DONE { Ok(machine) } else { Err(refusal(answer)) }
     }
 
     pub fn step(&mut self) {
@@ -129,6 +153,12 @@ impl Machine {
         assert_eq!(answer, DONE, "a loaded record in whole memory is run");
     }
 
+    /// Runs to a tick above 0 and no further: a nearer limit ends the run there.
+    pub fn run_to(&mut self, tick: u64) {
+        self.record[place::LIMIT] = tick;
+        self.run();
+    }
+
     pub fn listing(&self) -> Vec<u8> {
         let Machine { record, words, labels } = self;
         let mut output = vec![0; LISTING];
@@ -137,6 +167,22 @@ impl Machine {
         output.truncate((answer / NUMBERS) as usize);
         output
     }
+}
+
+/// Up to which tick nothing of what is hidden at a label can show there, for an
+/// image and all that are alike at the label.
+#[rustfmt::skip]
+pub fn certify(label: u8, text: &[u8]) -> Result<Certificate, Refusal> {
+    let (mut words, mut labels) = (vec![0; WORDS], vec![0; WORDS]);
+    let mut buffer = [0; certificate::SPAN];
+    // As above, every pointer is that of a slice of the length beside it, and no two overlap.
+    let answer = unsafe { jennydusk_certify(label, text.as_ptr(), text.len(), words.as_mut_ptr(), words.len(), labels.as_mut_ptr(), labels.len(), buffer.as_mut_ptr(), buffer.len()) };
+    let found = Certificate { cause: buffer[certificate::CAUSE], tick: buffer[certificate::TICK], place: buffer[certificate::PLACE] as usize };
+    if answer == DONE { Ok(found) } else { Err(refusal(answer)) }
+}
+
+fn refusal(answer: u64) -> Refusal {
+    Refusal { number: (answer % NUMBERS) as u8, line: (answer / NUMBERS) as usize }
 }
 
 /// What the record and the memory hold.
@@ -294,6 +340,10 @@ mod tests {
             ("CLOCK", place::CLOCK),
             ("END", place::END),
             ("WHY", place::WHY),
+            ("CERTIFICATE_SPAN", certificate::SPAN),
+            ("CAUSE", certificate::CAUSE),
+            ("TICK", certificate::TICK),
+            ("PLACE", certificate::PLACE),
         ];
         for (name, place) in numbers {
             assert_eq!(defined(name), place.to_string(), "{name}");
@@ -314,6 +364,10 @@ mod tests {
             ("WHY_LABEL", WHY_LABEL),
             ("WHY_OP", WHY_OP),
             ("UPCALL", UPCALL),
+            ("NO_BREAK", NO_BREAK),
+            ("RELEASE", RELEASE),
+            ("AT_LARGE", AT_LARGE),
+            ("TIMED_FROM_OUTSIDE", TIMED_FROM_OUTSIDE),
             ("DONE", DONE),
         ];
         for (name, number) in numbers {

@@ -4,6 +4,7 @@
 #![deny(unsafe_code)]
 
 mod asm;
+mod certify;
 mod command;
 mod dis;
 mod files;
@@ -74,7 +75,7 @@ fn say(text: &str) -> Result<Status, Failure> {
 
 fn usage(error: &str) -> Failure {
     let names = COMMANDS.map(|command| command.name).join("|");
-    Failure::refused(format!("kiln: {error}\nusage: kiln {names} FILE [OPTION]..., kiln --help"))
+    Failure::refused(format!("kiln: {error}\nusage: kiln {names} FILE [ARGUMENT]..., kiln --help"))
 }
 
 fn help() -> String {

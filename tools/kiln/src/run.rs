@@ -19,5 +19,5 @@ pub fn run(arguments: &Arguments) -> Result<Status, Failure> {
         loaded.map_err(|refusal| refusals::failure(&arguments.file, &text, &refusal))?;
     machine.run();
     files::write(output, &machine.listing())?;
-    Ok(if machine.end() == HALTED { Status::Done } else { Status::Unfinished })
+    Ok(if machine.end() == HALTED { Status::Done } else { Status::EndedOtherwise })
 }

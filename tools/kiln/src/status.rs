@@ -3,10 +3,11 @@
 /// The exit statuses, as kiln(1) lists them.
 #[derive(Clone, Copy, Debug, PartialEq, Eq)]
 pub enum Status {
-    /// Done; of a run, halted.
+    /// Done; of a run, halted; of a certificate, to the end.
     Done = 0,
-    /// The run's clock was spent, or it stalled.
-    Unfinished = 1,
+    /// Done, with another end: a spent clock or a stall, or a certificate up to
+    /// a tick.
+    EndedOtherwise = 1,
     /// The image, the source or the command line is refused.
     Refused = 2,
     /// Input or output failed.
