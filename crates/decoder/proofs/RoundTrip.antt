@@ -23,7 +23,7 @@ use Rattle.encoder.specs.Places as at
 use Rattle.encoder.specs.Layout.{kindOf, gatesWords, wordsOf, holding}
 use Rattle.encoder.proofs.Laws.{length-words}
 use Rattle.decoder.specs.Held.{wordAt, low32, byteCount, low8, pairFrom, callFrom, callIn, gateIn, tabulate, fixedIn, controlIn, registersIn, recordIn, begins, holds, nothing, machineIn}
-use Rattle.decoder.specs.Typed.{PairTyped, GateTyped, CallTyped, FixedTyped, ControlTyped, BankTyped, Typed}
+use Rattle.model.specs.Inner.Typed.{PairTyped, GateTyped, CallTyped, FixedTyped, ControlTyped, RegistersTyped, MachineTyped}
 use Rattle.decoder.proofs.Lists.{elements, tabulate-same, length-tabulate, getD-tabulate, begins-itself, begun}
 
 -- ---- a record with every field cut to its width
@@ -120,7 +120,7 @@ fixed-same : (f : Fixed) → FixedTyped f → cutFixed f ≡ f
 fixed-same f t =
     let gs : tabulate (λ (k : ℕ). cutGate (getD (f .gates) k noGate)) mostGates ≡ f .gates
     = tabulate-same _ (λ (k : ℕ). getD (f .gates) k noGate) mostGates (λ k h. gate-same (getD (f .gates) k noGate) (t .gates k h))
-    ∙ elements noGate (f .gates) (t .eight) in
+    ∙ elements noGate (f .gates) (t .places) in
     rw (mod-eq-of-lt (t .size), mod-eq-of-lt (t .limit), mod-eq-of-lt (t .errorpc), mod-eq-of-lt (t .count), gs) refl
 
 control-same : (c : Control) → ControlTyped c → cutControl c ≡ c
@@ -129,14 +129,14 @@ control-same c t =
     (mod-eq-of-lt (t .pc), pair-same (c .pair) (t .pair), mod-eq-of-lt (t .clock), call-same (c .first) (t .first), call-same (c .second) (t .second), mod-eq-of-lt (t .end), mod-eq-of-lt (t .why))
     refl
 
-bank-same : (b : Bank) → BankTyped b → cutBank b ≡ b
+bank-same : (b : Bank) → RegistersTyped b → cutBank b ≡ b
 bank-same b t =
     let vs : tabulate (λ (k : ℕ). low32 (getD (b .values) k 0)) registerCount ≡ b .values
-    = tabulate-same _ (λ (k : ℕ). getD (b .values) k 0) registerCount (λ k h. mod-eq-of-lt (t .values k h))
-    ∙ elements 0 (b .values) (t .sixteen) in
+    = tabulate-same _ (λ (k : ℕ). getD (b .values) k 0) registerCount (λ k h. mod-eq-of-lt (t .numbers .values k h))
+    ∙ elements 0 (b .values) (t .values) in
     let ls : tabulate (λ (k : ℕ). low8 (getD (b .labels) k 0)) registerCount ≡ b .labels
-    = tabulate-same _ (λ (k : ℕ). getD (b .labels) k 0) registerCount (λ k h. mod-eq-of-lt (t .labels k h))
-    ∙ elements 0 (b .labels) (t .marks) in
+    = tabulate-same _ (λ (k : ℕ). getD (b .labels) k 0) registerCount (λ k h. mod-eq-of-lt (t .numbers .labels k h))
+    ∙ elements 0 (b .labels) (t .labels) in
     rw (vs, ls) refl
 
 -- ---- what is read is a record of the code
@@ -175,7 +175,7 @@ fixed-typed b =
       limit = low32-lt _;
       errorpc = low32-lt _;
       count = low32-lt _;
-      eight = length-tabulate _ mostGates;
+      places = length-tabulate _ mostGates;
       gates = λ k h. rw (getD-tabulate _ mostGates k noGate h) (gate-typed b _);
     }
 
@@ -192,28 +192,31 @@ control-typed b =
       why = low8-lt _;
     }
 
-bank-typed : (b : List ℕ) → BankTyped (registersIn b)
+bank-typed : (b : List ℕ) → RegistersTyped (registersIn b)
 unfolding registersIn
 bank-typed b =
     record {
-      sixteen = length-tabulate _ registerCount;
-      values = λ k h. rw (getD-tabulate {A = ℕ} _ registerCount k 0 h) (low32-lt _);
-      marks = length-tabulate _ registerCount;
-      labels = λ k h. rw (getD-tabulate {A = ℕ} _ registerCount k 0 h) (low8-lt _);
+      values = length-tabulate _ registerCount;
+      labels = length-tabulate _ registerCount;
+      numbers =
+          record {
+            values = λ k h. rw (getD-tabulate {A = ℕ} _ registerCount k 0 h) (low32-lt _);
+            labels = λ k h. rw (getD-tabulate {A = ℕ} _ registerCount k 0 h) (low8-lt _);
+          };
     }
 
-typed-in : (b : List ℕ) → Typed (recordIn b)
+typed-in : (b : List ℕ) → MachineTyped (recordIn b)
 unfolding recordIn
 typed-in b = record { fixed = fixed-typed b; control = control-typed b; registers = bank-typed b }
 
 -- ---- the laws
 
 -- What is written is read again.
-pub reads-written : (r : Machine) (rest : List ℕ) → Typed r → machineIn (wordsOf r ++ rest) ≡ holds r
+pub reads-written : (r : Machine) (rest : List ℕ) → MachineTyped r → machineIn (wordsOf r ++ rest) ≡ holds r
 unfolding machineIn
 reads-written r rest t =
     let e : recordIn (wordsOf r ++ rest) ≡ r
-    = read-cut r rest (t .fixed .eight) (t .registers .sixteen) (t .registers .marks)
+    = read-cut r rest (t .fixed .places) (t .registers .values) (t .registers .labels)
     ∙ rw (fixed-same (r .fixed) (t .fixed), control-same (r .control) (t .control), bank-same (r .registers) (t .registers)) refl in
     rw (e, begins-itself (wordsOf r) rest) refl
 
@@ -229,10 +232,10 @@ pub written-read : (b : List ℕ) (r : Machine) → machineIn b ≡ holds r → 
 unfolding machineIn
 written-read b r h =
     let p : (begins (wordsOf (recordIn b)) b ≡ true) × (recordIn b ≡ r) = held (begins (wordsOf (recordIn b)) b) b refl h in
-    rw (← p .1) (begun (wordsOf (recordIn b)) b (p .0) ∙ ap (λ (n : ℕ). wordsOf (recordIn b) ++ drop n b) (length-words (recordIn b) (typed-in b .fixed .eight) (typed-in b .registers .sixteen) (typed-in b .registers .marks)))
+    rw (← p .1) (begun (wordsOf (recordIn b)) b (p .0) ∙ ap (λ (n : ℕ). wordsOf (recordIn b) ++ drop n b) (length-words (recordIn b) (typed-in b .fixed .places) (typed-in b .registers .values) (typed-in b .registers .labels)))
 
 -- And it is a record of the code.
-pub typed-read : (b : List ℕ) (r : Machine) → machineIn b ≡ holds r → Typed r
+pub typed-read : (b : List ℕ) (r : Machine) → machineIn b ≡ holds r → MachineTyped r
 unfolding machineIn
 typed-read b r h =
     let p : (begins (wordsOf (recordIn b)) b ≡ true) × (recordIn b ≡ r) = held (begins (wordsOf (recordIn b)) b) b refl h in
