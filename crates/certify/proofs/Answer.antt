@@ -11,7 +11,7 @@ use borrow.Author.Tests.{le-leb}
 use Rattle.causes.specs.declared.Outcome.the-variants.{Done}
 use Rattle.causes.specs.Causes.{numberOf, isDone}
 use Rattle.model.specs.Numbers.{letterV, letterX}
-use Rattle.model.specs.Record.{Bank, State}
+use Rattle.model.specs.Record.{Bank, State, lent}
 use Rattle.model.specs.Load.{Loading, load}
 use Rattle.model.specs.Listing.{line}
 use Rattle.model.specs.Program.{stateOfLoad, memoryAfter, programMemory, Replied}
@@ -54,7 +54,7 @@ module _ (text : List ℕ) (m : Bank) (a : Loading) (e : a ≡ load text m) wher
   -- An accepted one.
   pub certified-done : {ℓ : ℕ} {r : Certificate} {words labels : List ℕ} → a .outcome ≡ Done
       → Watched ℓ (stateOfLoad a) r words labels
-      → record { outcome = a .outcome; line = a .line; certificate = certificateOf r; memory = record { values = words; labels = labels } }
+      → record { outcome = a .outcome; line = a .line; certificate = certificateOf r; memory = lent words labels }
       ≡ certifying ℓ text m
   unfolding certifying memoryAfter
   certified-done y w = rw (w .certificate, w .memory, ← e, y)

@@ -2,6 +2,7 @@
 -- Assumes nothing.
 use mathlib.Core.List.{List}
 use Prim.Native.Nat.{ℕ}
+use Rattle.model.specs.Record.{lent}
 use Rattle.model.specs.Certificate.{Certifying}
 use Rattle.model.specs.Certificate as model
 use Rattle.certify.specs.declared.Certificate.{Certificate}
@@ -18,5 +19,5 @@ certifyingOf r words labels =
       outcome = r .outcome;
       line = r .line;
       certificate = certificateOf (r .certificate);
-      memory = record { values = words; labels = labels };
+      memory = lent words labels;
     }

@@ -1,11 +1,9 @@
 -- Laws about the whole record: when it is well-formed, and what a call answers.
 -- Assumes nothing.
-use Prim.Native.Nat.{ℕ, _-_, _≤_}
+use Prim.Native.Nat.{ℕ, _-_}
 use mathlib.Core.Path.{_≡_, refl, ap, _∙_}
-use mathlib.Core.Bool.{Bool, true, false, _&&_, false≢true}
+use mathlib.Core.Bool.{true, false, _&&_}
 use mathlib.Core.List.{List}
-use borrow.Author.Tests.{leb-true}
-use lib.Dec.{leb}
 use Rattle.causes.specs.declared.Cause.the-variants.{ShortMemory, IllFormed}
 use Rattle.causes.specs.declared.Outcome.the-variants.{Done, Refused}
 use Rattle.model.specs.declared.Pair.{Pair}
@@ -14,13 +12,12 @@ use Rattle.model.specs.declared.Request.{Request}
 use Rattle.model.specs.declared.Request.the-variants.{Step, Run}
 use Rattle.model.specs.declared.Call.{Call}
 use Rattle.model.specs.declared.Call.the-variants.{Empty, Gate, Upcall}
-use Rattle.model.specs.Numbers.{mostWords, mostTicks, mostGates}
 use Rattle.model.specs.Record.{State, machineOf, isEmpty, lent}
 use Rattle.model.specs.Record as records
-use Rattle.model.specs.WellFormed.{isValid, fixedInRange, endInRange, upcallWellFormed, callsWellFormed, wellFormed, lentWhole}
+use Rattle.model.specs.WellFormed.{isValid, upcallWellFormed, callsWellFormed, wellFormed, lentWhole}
 use Rattle.model.specs.Step.{step, steps, run}
 use Rattle.model.specs.Answer.{answer, work, answerOf}
-use Rattle.model.proofs.Ready.{whole-lengths}
+use Rattle.model.proofs.Ready.{fit, whole-lengths}
 use Rattle.machine.specs.declared.Machine.{Machine}
 use Rattle.engine.specs.Advance.{stateFrom}
 use Rattle.engine.specs.Inner.Drive.{InRanges}
@@ -48,51 +45,20 @@ calls-upcall c k q e (Upcall k′ q′ e′) = refl
 
 -- ---- what a well-formed record says
 
-passed-left : (a b : Bool) → (a && b) ≡ true → a ≡ true
-passed-left true b e = refl
-passed-left false b e = absurd (false≢true e)
-
-passed-right : (a b : Bool) → (a && b) ≡ true → b ≡ true
-passed-right true b e = e
-passed-right false b e = absurd (false≢true e)
-
-module _ (r : records.Machine) (e : wellFormed r ≡ true) where
-  in-range : fixedInRange (r .fixed) ≡ true
-  unfolding wellFormed
-  in-range = passed-left _ (endInRange (r .control)) (passed-left _ (leb (r .control .clock) (r .fixed .limit)) (passed-left _ (isValid (r .control .pair)) (passed-left _ (callsWellFormed (r .control) (r .control .first) (r .control .second)) e)))
-
-  pub clock-within : r .control .clock ≤ r .fixed .limit
-  unfolding wellFormed
-  clock-within =
-      leb-true _ _
-      (passed-right (fixedInRange (r .fixed) && endInRange (r .control)) _
-      (passed-left _ (isValid (r .control .pair)) (passed-left _ (callsWellFormed (r .control) (r .control .first) (r .control .second)) e)))
-
-  size-within : r .fixed .size ≤ mostWords
-  unfolding fixedInRange
-  size-within =
-      leb-true _ _
-      (passed-right (leb 1 (r .fixed .size)) _
-      (passed-left _ (leb 1 (r .fixed .limit)) (passed-left _ (leb (r .fixed .limit) mostTicks) (passed-left _ (leb (r .fixed .count) mostGates) in-range))))
-
-  pub limit-within : r .fixed .limit ≤ mostTicks
-  unfolding fixedInRange
-  limit-within =
-      leb-true _ _
-      (passed-right (leb 1 (r .fixed .size) && leb (r .fixed .size) mostWords && leb 1 (r .fixed .limit)) _
-      (passed-left _ (leb (r .fixed .count) mostGates) in-range))
-
-  gates-within : r .fixed .count ≤ mostGates
-  unfolding fixedInRange
-  gates-within =
-      leb-true _ _
-      (passed-right (leb 1 (r .fixed .size) && leb (r .fixed .size) mostWords && leb 1 (r .fixed .limit) && leb (r .fixed .limit) mostTicks) _ in-range)
-
-  -- The ranges that the steps ask.
-  pub ranges-of : (m : records.Bank) → lentWhole (r .fixed .size) m ≡ true → InRanges (r .fixed) (r .control) (m .values) (m .labels)
-  ranges-of m h =
-      let w = whole-lengths _ m h in
-      record { size = size-within; limit = limit-within; gates = gates-within; clock = clock-within; words = w .0; marks = w .1 }
+-- The ranges that the steps ask, with memory that is lent whole.
+pub ranges-of : (r : records.Machine) → wellFormed r ≡ true → (m : records.Bank) → lentWhole (r .fixed .size) m ≡ true
+    → InRanges (r .fixed) (r .control) (m .values) (m .labels)
+ranges-of r e m h =
+    let f = fit r e in
+    let w = whole-lengths _ m h in
+    record {
+      size = f .fixed .sizeHigh;
+      limit = f .fixed .limitHigh;
+      gates = f .fixed .gates;
+      clock = f .clock;
+      words = w .0;
+      marks = w .1;
+    }
 
 -- ---- what a call answers
 

@@ -11,20 +11,18 @@ ghost use mathlib.Core.Path.{_≡_};
 ghost use mathlib.Core.Bool.{_&&_, cond};
 ghost use lib.Dec.{leb, eqb};
 ghost use Rattle.model.specs.declared.Control.{Control};
-ghost use Rattle.model.specs.Numbers.{mostWords, mostTicks, mostGates, stalled, unknownOp};
+ghost use Rattle.model.specs.Numbers.{mostGates, stalled, unknownOp};
 ghost use Rattle.model.specs.Record.{isEmpty};
-ghost use Rattle.model.specs.WellFormed.{upcallWellFormed, callsWellFormed};
+ghost use Rattle.model.specs.WellFormed.{sizeInRange, limitInRange, upcallWellFormed, callsWellFormed};
 ghost use Rattle.machine.specs.Inner.WellFormed.{controlAt, overGate};
 
 // The ranges of what no step changes.
 pub(crate) fn fixed_in_range(size: u32, limit: u32, count: u32) -> bool
-    ensures { λ r. ⌜ r ≡ (leb 1 size && leb size mostWords && leb 1 limit && leb limit mostTicks && leb count mostGates) ⌝ }
+    ensures { λ r. ⌜ r ≡ (sizeInRange size && limitInRange limit && leb count mostGates) ⌝ }
 {
-    (1 <= size)
-        & (size <= MOST_WORDS)
-        & (1 <= limit)
-        & (limit <= MOST_TICKS)
-        & (count <= MOST_GATES)
+    let size_fits = (1 <= size) & (size <= MOST_WORDS);
+    let limit_fits = (1 <= limit) & (limit <= MOST_TICKS);
+    size_fits & limit_fits & (count <= MOST_GATES)
 }
 
 // End and why.

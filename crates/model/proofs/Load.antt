@@ -214,10 +214,10 @@ header-in-order h m e v =
     record {
       fixed =
           record {
-            sizeLow = leb-true 1 (h .size) (q .0 .0 .0 .0 .0 .0 .0);
-            sizeHigh = leb-true (h .size) 2048 (q .0 .0 .0 .0 .0 .0 .1);
-            limitLow = leb-true 1 (h .limit) (q .0 .1);
-            limitHigh = leb-true (h .limit) (2 ^ 24) (q .1);
+            sizeLow = leb-true 1 (h .size) (q .0 .0 .0 .0 .0 .0);
+            sizeHigh = leb-true (h .size) 2048 (q .0 .0 .0 .0 .0 .1);
+            limitLow = leb-true 1 (h .limit) (q .1 .0);
+            limitHigh = leb-true (h .limit) (2 ^ 24) (q .1 .1);
             gates = lit≤ tt;
           };
       started = record { valid = v; clock = refl; first = refl; second = refl; end = refl; why = refl };
@@ -360,7 +360,7 @@ judge-not-short r last n (l ∷ ls) =
 -- The size of an M line in its ranges is at most 2,048.
 header-size : (h : Header) → headerInRange h ≡ true → h .size ≤ 2048
 unfolding headerInRange
-header-size h e = let q = simp and-iff at e in leb-true (h .size) 2048 (q .0 .0 .0 .0 .0 .0 .1)
+header-size h e = let q = simp and-iff at e in leb-true (h .size) 2048 (q .0 .0 .0 .0 .0 .1)
 
 -- A refusal by one of the causes 1 to 5.
 other : {c : Cause} {n k : ℕ} → causeNumber c ≤ 5 → refuse c n ≡ refuse ShortMemory k → ⊥

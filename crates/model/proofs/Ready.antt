@@ -66,10 +66,10 @@ unfolding fixedInRange
 fixed-fit f e =
     let h = simp and-iff at e in
     record {
-      sizeLow = leb-true 1 (f .size) (h .0 .0 .0 .0);
-      sizeHigh = leb-true (f .size) 2048 (h .0 .0 .0 .1);
-      limitLow = leb-true 1 (f .limit) (h .0 .0 .1);
-      limitHigh = leb-true (f .limit) (2 ^ 24) (h .0 .1);
+      sizeLow = leb-true 1 (f .size) (h .0 .0 .0);
+      sizeHigh = leb-true (f .size) 2048 (h .0 .0 .1);
+      limitLow = leb-true 1 (f .limit) (h .0 .1 .0);
+      limitHigh = leb-true (f .limit) (2 ^ 24) (h .0 .1 .1);
       gates = leb-true (f .count) 8 (h .1);
     }
 

@@ -12,7 +12,7 @@ use Rattle.causes.specs.declared.Cause.the-variants.{TextLength, MalformedLine,
 use Rattle.causes.specs.declared.Outcome.{Outcome}
 use Rattle.causes.specs.declared.Outcome.the-variants.{Done, Refused}
 use Rattle.causes.specs.Tests.{unless, Test, _orElse_, firstRefusal}
-use Rattle.model.specs.Numbers.{mostWords, mostTicks, mostGates, registerCount, valueCount, longestText}
+use Rattle.model.specs.Numbers.{mostGates, registerCount, valueCount, longestText}
 use Rattle.model.specs.declared.Call.the-variants.{Empty}
 use Rattle.model.specs.declared.format.Line.{Line}
 use Rattle.model.specs.declared.format.Line.the-variants.{M, G, R, W, Malformed}
@@ -21,7 +21,7 @@ use Rattle.model.specs.declared.judging.Kind.the-variants.{HeaderLine, G
 use Rattle.model.specs.declared.judging.Last.{Last}
 use Rattle.model.specs.declared.judging.Header.{Header}
 use Rattle.model.specs.Record.{Bank, Machine}
-use Rattle.model.specs.WellFormed.{isValid, lentWhole}
+use Rattle.model.specs.WellFormed.{isValid, sizeInRange, limitInRange, lentWhole}
 use Rattle.model.specs.Ops.{isLabel, noGate}
 use Rattle.model.specs.Text.{lines}
 
@@ -79,8 +79,8 @@ withLine r Malformed = r
 -- The numbers of an M line are in their ranges.
 unfoldable pub headerInRange : Header → Bool
 headerInRange h =
-    leb 1 (h .size) && leb (h .size) mostWords && ltb (h .errorpc) valueCount && ltb (h .pc) valueCount && isLabel (h .p)
-    && isLabel (h .t) && leb 1 (h .limit) && leb (h .limit) mostTicks
+    sizeInRange (h .size) && ltb (h .errorpc) valueCount && ltb (h .pc) valueCount && isLabel (h .p) && isLabel (h .t)
+    && limitInRange (h .limit)
 
 -- The numbers of a G line are in their ranges, and it isn't the ninth.
 unfoldable pub gateInRange : ℕ → ℕ → ℕ → ℕ → Bool

@@ -17,9 +17,17 @@ use Rattle.model.specs.Record.{Bank, Machine}
 abbrev pub isValid : Pair → Bool
 isValid q = validPair (q .pc) (q .timing)
 
--- The ranges of what no step changes: size 1 to 2,048 words, limit 1 to 16,777,216 ticks, up to eight gates.
+-- The size is 1 to 2,048 words.
+abbrev pub sizeInRange : ℕ → Bool
+sizeInRange size = leb 1 size && leb size mostWords
+
+-- The limit is 1 to 16,777,216 ticks.
+abbrev pub limitInRange : ℕ → Bool
+limitInRange limit = leb 1 limit && leb limit mostTicks
+
+-- The ranges of what no step changes: size, limit, and up to eight gates.
 unfoldable pub fixedInRange : Fixed → Bool
-fixedInRange f = leb 1 (f .size) && leb (f .size) mostWords && leb 1 (f .limit) && leb (f .limit) mostTicks && leb (f .count) mostGates
+fixedInRange f = sizeInRange (f .size) && limitInRange (f .limit) && leb (f .count) mostGates
 
 -- End is 0 to 3; why is 1 to 3 at end 3, else 0.
 unfoldable pub endInRange : Control → Bool

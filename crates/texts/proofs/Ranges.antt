@@ -56,10 +56,10 @@ unfolding headerInRange isLabel
 header-range h e =
     let q = simp and-iff at e in
     record {
-      size-fits = leb-true _ _ (q .0 .0 .0 .0 .0 .0 .1);
-      errorpc-fits = ltb-true _ _ (q .0 .0 .0 .0 .0 .1);
-      pc-fits = ltb-true _ _ (q .0 .0 .0 .0 .1);
-      p-fits = ltb-true _ _ (q .0 .0 .0 .1);
-      t-fits = ltb-true _ _ (q .0 .0 .1);
-      limit-fits = leb-true _ _ (q .1);
+      size-fits = leb-true _ _ (q .0 .0 .0 .0 .0 .1);
+      errorpc-fits = ltb-true _ _ (q .0 .0 .0 .0 .1);
+      pc-fits = ltb-true _ _ (q .0 .0 .0 .1);
+      p-fits = ltb-true _ _ (q .0 .0 .1);
+      t-fits = ltb-true _ _ (q .0 .1);
+      limit-fits = leb-true _ _ (q .1 .1);
     }

@@ -41,14 +41,14 @@ pub const BEHIND_HEADER: Last = Last {
 fn header_in_range(header: Header) -> bool
     ensures { λ r. ⌜ r ≡ headerInRange header ⌝ }
 {
-    (1 <= header.size)
-        & (header.size <= MOST_WORDS)
+    let size_fits = (1 <= header.size) & (header.size <= MOST_WORDS);
+    let limit_fits = (1 <= header.limit) & (header.limit <= MOST_TICKS);
+    size_fits
         & (header.errorpc < VALUE_COUNT)
         & (header.pc < VALUE_COUNT)
         & (header.p < LABEL_COUNT)
         & (header.t < LABEL_COUNT)
-        & (1 <= header.limit)
-        & (header.limit <= MOST_TICKS)
+        & limit_fits
 }
 
 // Whether the numbers of a G line are in their ranges, and it isn't the ninth.

@@ -5,7 +5,7 @@ use mathlib.Core.Path.{_≡_}
 use mathlib.Core.Bool.{Bool, cond}
 use mathlib.Core.List.{List}
 use Rattle.model.specs.declared.Control.{Control}
-use Rattle.model.specs.Record.{State}
+use Rattle.model.specs.Record.{State, lent}
 use Rattle.model.specs.Step.{run}
 use Rattle.model.specs.Certificate.{certify}
 use Rattle.model.specs.Certificate as model
@@ -21,4 +21,4 @@ firstWith ℓ opened attempted place after =
 -- The first break of the run from s on was found, and the run was done.
 pub record Watched (ℓ : ℕ) (s : State) (r : Certificate) (words labels : List ℕ) : Type 0 where
   pub certificate : certificateOf r ≡ certify ℓ s
-  pub memory : record { values = words; labels = labels } ≡ run s .memory
+  pub memory : lent words labels ≡ run s .memory

@@ -3,17 +3,17 @@
 use mathlib.Core.Path.{_∙_}
 use borrow.Author.Needs.{needs}
 use Rattle.model.specs.Record.{lent}
+use Rattle.model.proofs.Ready.{fit}
 use Rattle.engine.proofs.Driving.{advanced-there}
 use Rattle.machine.specs.Answered.{recordOf}
-use Rattle.machine.proofs.Whole.{clock-within, limit-within, ranges-of, carried-of}
+use Rattle.machine.proofs.Whole.{ranges-of, carried-of}
 use Rattle.machine.proofs.Machine.carried.Statement.{statement}
 use Rattle.machine.proofs.Machine.carried.Tie as tie
 
 step-count-requires : tie.Need-step-count-requires
 step-count-requires c κs =
     let start = c .before .before .before .before .before .before in
-    let self = recordOf (start .args .self) in
-    (clock-within self (start .pre .0), limit-within self (start .pre .0))
+    let f = fit (recordOf (start .args .self)) (start .pre .0) in (f .clock, f .fixed .limitHigh)
 
 advance-requires : tie.Need-advance-requires
 advance-requires c κs = search needs
