@@ -120,8 +120,8 @@ uint64_t jennydusk_print(const uint64_t *record, size_t record_length, const uin
  * With JENNYDUSK_NO_BREAK, nothing that is hidden from the label shows at it at any tick; with another cause, at none
  * below JENNYDUSK_TICK. That holds for this text and for every other one of equal size, gates, error pc and limit that is
  * alike at the label; those get the same certificate, so the secrets of this one may be any, or zeros. It is about ticks
- * and not about real time, and about this label alone: another one wants a call of its own. Behind a break nothing is
- * promised; it need not show anything either. */
+ * and not about real time, and about this label alone: another one wants a call of its own. From a break on nothing is
+ * promised, and still nothing may show. */
 uint64_t jennydusk_certify(uint8_t label, const uint8_t *text, size_t text_length, uint32_t *words, size_t words_length,
                            uint8_t *labels, size_t labels_length, uint64_t *certificate, size_t certificate_length);
 

@@ -1,5 +1,6 @@
-/* Calls the library on buffers that it must refuse, and sees that they are left; and its label rules on every label,
- * beside those of document 01 as they are written here. Prints what went wrong. */
+/* Calls the library on buffers that it must refuse, and sees that they are left; has certificates made with each cause;
+ * and tries its label rules on every label, beside those of document 01 as they are written here. Prints what went
+ * wrong. */
 #include "jennydusk.h"
 
 #include <stdio.h>
@@ -10,6 +11,7 @@
 static uint64_t record[JENNYDUSK_SPAN + 1], record_before[JENNYDUSK_SPAN + 1];
 static uint32_t words[SIZE], words_before[SIZE];
 static uint8_t labels[SIZE], labels_before[SIZE], output[64], output_before[64];
+static uint64_t certificate[JENNYDUSK_CERTIFICATE_SPAN + 1], certificate_before[JENNYDUSK_CERTIFICATE_SPAN + 1];
 static int wrong;
 
 static void keep(void) {
@@ -17,12 +19,14 @@ static void keep(void) {
     memcpy(words_before, words, sizeof words);
     memcpy(labels_before, labels, sizeof labels);
     memcpy(output_before, output, sizeof output);
+    memcpy(certificate_before, certificate, sizeof certificate);
 }
 
 /* The answer is the one that is wanted; where it is a refusal, all is left. */
 static void expect(const char *what, uint64_t answer, unsigned number, size_t count) {
     int left = !memcmp(record_before, record, sizeof record) && !memcmp(words_before, words, sizeof words)
-        && !memcmp(labels_before, labels, sizeof labels) && !memcmp(output_before, output, sizeof output);
+        && !memcmp(labels_before, labels, sizeof labels) && !memcmp(output_before, output, sizeof output)
+        && !memcmp(certificate_before, certificate, sizeof certificate);
     if (JENNYDUSK_NUMBER(answer) != number || JENNYDUSK_COUNT(answer) != count || (number != JENNYDUSK_DONE && !left)) {
         printf("%s: number %u, count %zu%s\n", what, JENNYDUSK_NUMBER(answer), JENNYDUSK_COUNT(answer), left ? "" : ", changed");
         wrong = 1;
@@ -98,6 +102,62 @@ static void try_no_records(void) {
     expect("label out of range", step(SIZE, JENNYDUSK_SPAN), JENNYDUSK_NO_RECORD, 0);
 }
 
+/* ---- certificates */
+
+#define LEVEL 240 /* what is labelled 240 is within, 255 is outside */
+#define MARGIN 0x0505050505050505
+
+static uint64_t certify(const char *text, size_t words_length, size_t labels_length, size_t span) {
+    return jennydusk_certify(LEVEL, (const uint8_t *)text, strlen(text), words, words_length, labels, labels_length,
+                             certificate, span);
+}
+
+/* A text that is refused, and buffers of which one or more are too short. */
+static void try_refused_certificates(void) {
+    size_t span = JENNYDUSK_CERTIFICATE_SPAN;
+    memset(certificate, 5, sizeof certificate);
+    keep();
+    expect("certify of no text", certify("", SIZE, SIZE, span), JENNYDUSK_TEXT_LENGTH, 0);
+    expect("certify of a bad line", certify("M,2,1,0,240,240,5\nW,0,240\n", SIZE, SIZE, span), JENNYDUSK_MALFORMED, 2);
+    expect("certify of a bad label", certify("M,2,1,0,240,256,5\n", SIZE, SIZE, span), JENNYDUSK_RANGE, 1);
+    expect("certify out of order", certify("M,2,1,0,240,240,5\nW,1,240,1\nW,0,240,1\n", SIZE, SIZE, span), JENNYDUSK_ORDER, 3);
+    expect("certify of no valid pair", certify("M,2,1,0,15,15,5\n", SIZE, SIZE, span), JENNYDUSK_PAIR, 1);
+    expect("certify in short words", certify(image, SIZE - 1, SIZE, span), JENNYDUSK_SHORT_MEMORY, 1);
+    expect("certify in short labels", certify(image, SIZE, SIZE - 1, span), JENNYDUSK_SHORT_MEMORY, 1);
+    for (size_t length = 0; length < span; length++) {
+        expect("certify to a short buffer", certify(image, SIZE, SIZE, length), JENNYDUSK_SHORT_BUFFER, 0);
+        expect("certify of no text to a short buffer", certify("", SIZE, SIZE, length), JENNYDUSK_SHORT_BUFFER, 0);
+        expect("certify in no memory to a short buffer", certify(image, 0, 0, length), JENNYDUSK_SHORT_BUFFER, 0);
+    }
+}
+
+/* The certificate of an accepted text. What lies behind its words, lent or not, is left. */
+static void expect_certificate(const char *what, const char *text, uint64_t cause, uint64_t tick, uint64_t place) {
+    for (size_t more = 0; more < 2; more++) {
+        memset(certificate, 5, sizeof certificate);
+        expect(what, certify(text, SIZE, SIZE, JENNYDUSK_CERTIFICATE_SPAN + more), JENNYDUSK_DONE, 0);
+        if (certificate[JENNYDUSK_CAUSE] != cause || certificate[JENNYDUSK_TICK] != tick
+            || certificate[JENNYDUSK_PLACE] != place || certificate[JENNYDUSK_CERTIFICATE_SPAN] != MARGIN)
+            wrong = 1, printf("%s: another certificate\n", what);
+    }
+}
+
+/* Each cause, and words and labels as the run to the end leaves them. */
+static void try_certificates(void) {
+    expect_certificate("no break", image, JENNYDUSK_NO_BREAK, 0, 0);
+    if (words[0] != 17825797 || words[1] != 0 || labels[0] != 240 || labels[1] != 240)
+        wrong = 1, puts("certify: another memory");
+    /* Word 1 relabels R5 from 255 to what R3 holds. */
+    expect_certificate("release", "M,2,0,1,240,240,5\nR,3,240,240\nR,5,255,7\nW,1,240,273874944\n", JENNYDUSK_RELEASE, 2, 1);
+    expect_certificate("at large", "M,2,0,1,255,255,5\nG,0,240,240\n", JENNYDUSK_AT_LARGE, 0, 0);
+    expect_certificate("timed from outside", "M,2,0,1,240,255,5\n", JENNYDUSK_TIMED_FROM_OUTSIDE, 0, 1);
+    /* Word 0 stores R0 into word 1, behind the break of the loaded state. */
+    expect_certificate("a run that goes on", "M,2,0,0,240,255,9\nR,0,240,7\nR,1,240,1\nW,0,240,167837696\n",
+                       JENNYDUSK_TIMED_FROM_OUTSIDE, 0, 0);
+    if (words[1] != 7)
+        wrong = 1, puts("certify: the run did not go on behind the break");
+}
+
 /* ---- labels, as document 01 has them: "A label is a byte, i * 16 + c." */
 
 #define LABELS 256
@@ -166,6 +226,8 @@ int main(void) {
     try_refused_loads();
     try_calls();
     try_no_records();
+    try_refused_certificates();
+    try_certificates();
     try_labels();
     return wrong;
 }

@@ -13,6 +13,7 @@ use interpreter::generator::compose::compose;
 use interpreter::generator::damage::{damage, PLANS};
 use interpreter::generator::random::Random;
 use interpreter::Label;
+use std::ops::RangeInclusive;
 
 /// A call that loads a text and has a buffer to write into: load its record's,
 /// certify its certificate's.
@@ -119,14 +120,24 @@ fn text(random: &mut Random, turn: usize) -> Text {
     Text { bytes: damaged.text, number: refusal.number.into(), line: refusal.line.into() }
 }
 
+/// A number of the first line, by its field, if it is one of this range.
+fn first_line(text: &[u8], field: usize, range: RangeInclusive<usize>) -> Option<usize> {
+    let field = text.split(|&byte| byte == b',' || byte == b'\n').nth(field)?;
+    let number = std::str::from_utf8(field).ok()?.parse().ok()?;
+    range.contains(&number).then_some(number)
+}
+
 /// The size that the first line names, if it is one that memory is made for.
 fn size_of(text: &[u8]) -> usize {
-    let field = text.split(|&byte| byte == b',' || byte == b'\n').nth(1);
-    let digits = field.and_then(|field| std::str::from_utf8(field).ok());
-    digits
-        .and_then(|digits| digits.parse().ok())
-        .filter(|size| (1..=2_048).contains(size))
-        .unwrap_or(8)
+    first_line(text, 1, 1..=2_048).unwrap_or(8)
+}
+
+/// The clock label that the first line names, at which the loaded state breaks
+/// nothing; or any label.
+fn choose_level(random: &mut Random, text: &[u8]) -> Label {
+    let any = Label(random.bits() as u8);
+    let timing = first_line(text, 5, 0..=255).map(|label| Label(label as u8));
+    timing.filter(|_| random.chance(60)).unwrap_or(any)
 }
 
 /// Buffers with what an earlier use has left in them: a record's and a
@@ -153,7 +164,7 @@ pub fn try_load(trials: &mut Trials, random: &mut Random, turn: usize) {
 pub fn try_certify(trials: &mut Trials, random: &mut Random, turn: usize) -> Option<u64> {
     let text = text(random, turn);
     let (lent, due) = CERTIFY.lend(trials, random, &text);
-    let level = Label(random.bits() as u8);
+    let level = choose_level(random, &text.bytes);
     let name = format!("certify at {} of\n{}", level.0, String::from_utf8_lossy(&text.bytes));
     let make = |calls: &dyn Calls, lent: &mut Lent| lent.certify(calls, level, &text.bytes);
     let left = trials.compare(&name, make, &lent, Due::Answer(due));

@@ -2,7 +2,9 @@
 //! `include/jennydusk.h` tells its users.
 
 use beside::calls::{NO_RECORD, SHORT_BUFFER};
+use beside::certificate;
 use beside::layout::{at, SPAN};
+use interpreter::certificate::cause;
 
 const HEADER: &str = include_str!("../../../include/jennydusk.h");
 
@@ -57,6 +59,17 @@ fn the_five_words_of_a_call_and_its_kinds() {
     let places = words.map(|word| number(&format!("CALL_{word}")));
     assert_eq!(places, [0, 1, 2, 3, 4]);
     assert_eq!(["EMPTY", "GATE_CALL", "UPCALL"].map(number), [0, 1, 2]);
+}
+
+#[test]
+fn the_words_of_a_certificate_and_its_causes() {
+    let places = [certificate::at::CAUSE, certificate::at::TICK, certificate::at::PLACE];
+    assert_eq!(["CAUSE", "TICK", "PLACE"].map(number), places);
+    assert_eq!(number("CERTIFICATE_SPAN"), certificate::SPAN);
+    let names = ["NO_BREAK", "RELEASE", "AT_LARGE", "TIMED_FROM_OUTSIDE"];
+    let causes = [cause::NO_BREAK, cause::RELEASE, cause::AT_LARGE, cause::TIMED_FROM_OUTSIDE];
+    assert_eq!(names.map(|name| number(name) as u64), causes);
+    assert_eq!(causes, [0, 1, 2, 3]);
 }
 
 #[test]

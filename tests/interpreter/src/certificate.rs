@@ -79,7 +79,7 @@ impl Machine {
     }
 
     /// The break that the state is, if it is one.
-    fn state_break(&self, level: Label) -> Option<Certificate> {
+    pub fn state_break(&self, level: Label) -> Option<Certificate> {
         let (tick, place) = (self.clock, self.pc);
         if self.is_at_large(level) {
             return Some(Certificate { cause: cause::AT_LARGE, tick, place: HIDDEN });

@@ -28,6 +28,9 @@ use std::process::ExitCode;
 /// Differences are shown up to this number.
 const SHOWN: u64 = 3;
 
+/// So many pairs are tried for one whose loaded state is no break.
+const TRIES: u32 = 3;
+
 /// The causes, by number.
 const CAUSES: [&str; 4] =
     ["no break", "an attempt to release", "a state at large", "a state timed from outside"];
@@ -43,8 +46,9 @@ const CAME: [(Came, &str); 3] = [
 ];
 
 /// What must come up besides.
-const EXPECTED: [&str; 8] = [
+const EXPECTED: [&str; 9] = [
     "pairs",
+    "pairs of which the limit bars an attempt",
     "ticks compared",
     "certified to the end: pairs hidden at the start",
     "certified to the end: pairs alike to the last tick though their ends differ",
@@ -78,7 +82,7 @@ fn main() -> ExitCode {
     let random = Random::new(number(0).unwrap_or(1));
     let trials = Trials::new(Tally::expecting(expected(is_library)));
     let mut trial = Trial { calls, random, trials };
-    let count = number(1).unwrap_or(10_000);
+    let count = number(1).unwrap_or(6_000);
     for turn in 0..count {
         trial.try_pair();
         if is_library {
@@ -105,6 +109,38 @@ fn expected(is_library: bool) -> Vec<String> {
     names
 }
 
+/// A pair, mostly one that goes on for a while: of those whose loaded state is a
+/// break there are many.
+fn choose(random: &mut Random) -> Pair {
+    let mut pair = Pair::make(random);
+    for _ in 0..TRIES {
+        let (machine, ..) = pair.one.loaded();
+        if machine.state_break(pair.level).is_none() || random.chance(20) {
+            return pair;
+        }
+        pair = Pair::make(random);
+    }
+    pair
+}
+
+/// Puts the limit before the end of the first attempt to release, so that it is
+/// barred; says whether there is one.
+fn bar_attempt(pair: &mut Pair) -> bool {
+    let (mut machine, mut words, labels) = pair.one.loaded();
+    match machine.certify(pair.level, &mut words, &labels) {
+        Ok(Certificate { cause: cause::RELEASE, tick, .. }) => {
+            pair.one.limit = tick - 1;
+            pair.other.limit = tick - 1;
+            true
+        }
+        _ => false,
+    }
+}
+
+fn name_of(cause: u64) -> &'static str {
+    CAUSES.get(cause as usize).unwrap_or(&"a cause that is none")
+}
+
 fn differ(cause: &str) -> String {
     format!("broken: pairs that differ from {cause} on")
 }
@@ -113,12 +149,14 @@ impl Trial<'_> {
     /// The library and the interpreter on one text.
     fn try_text(&mut self, turn: usize) {
         if let Some(cause) = try_certify(&mut self.trials, &mut self.random, turn) {
-            self.trials.tally.count(&format!("certify, {}", CAUSES[cause as usize % 4]));
+            self.trials.tally.count(&format!("certify, {}", name_of(cause)));
         }
     }
 
     fn try_pair(&mut self) {
-        let pair = Pair::make(&mut self.random);
+        let mut pair = choose(&mut self.random);
+        let is_barred = self.random.chance(25) && bar_attempt(&mut pair);
+        self.trials.tally.count_if(is_barred, "pairs of which the limit bars an attempt");
         match self.check(&pair) {
             Ok(()) => self.trials.passed += 1,
             Err(what) => {
@@ -180,7 +218,7 @@ impl Tried {
     /// Counts what kind of pair it is.
     fn count(&self, tally: &mut Tally, bound: u64, reached: u64) {
         tally.count("pairs");
-        tally.count(&format!("pairs with {}", CAUSES[self.certificate.cause as usize % 4]));
+        tally.count(&format!("pairs with {}", name_of(self.certificate.cause)));
         if self.certificate == Certificate::WHOLE {
             self.count_whole(tally, bound);
         } else {
@@ -208,7 +246,7 @@ impl Tried {
         let tick = certificate.tick;
         tally.count_if(tick == 0, "broken: pairs at the loaded state");
         let parted = compare(*level, one, other, reached).differs.is_some();
-        tally.count_if(parted, &differ(CAUSES[certificate.cause as usize % 4]));
+        tally.count_if(parted, &differ(name_of(certificate.cause)));
         let far = came(*level, one, other, bound) >= Came::BackByDifferentRuns;
         tally.count_if(far, "broken: pairs after a hidden upcall by different hidden runs");
         if certificate.cause == cause::RELEASE && tick < reached {
