@@ -5,7 +5,7 @@ use Prim.Native.Nat.{ℕ, zero, suc, _+_, _≤_, _<_}
 use mathlib.Core.Path.{_≡_, refl, sym, ap, _∙_, subst}
 use mathlib.Core.Bool.{Bool, true, false, not, _&&_, _||_, cond, true≢false, false≢true}
 use mathlib.Core.List.{List}
-use mathlib.Core.Logic.{_⊎_, inl, inr, ⊎-elim}
+use mathlib.Core.Logic.{_⊎_, inl, inr}
 use mathlib.Core.Option.{some}
 use native.Mathlib.Omega.{arith}
 use borrow.Author.Tests.{ltb-true, ltb-false, leb-true, leb-false, lt-ltb, le-ltb, eq-eqb, ne-eqb}
@@ -24,7 +24,7 @@ use Rattle.engine.specs.declared.steps.common.Turn.{Turn}
 use Rattle.engine.specs.Skim.{isCommonOp, fetchesCommon, isCommon}
 use Rattle.engine.specs.Calls.{deadlineOf}
 use Rattle.engine.specs.Inner.Common.{going, stopping, timed, gone, Assigned, ReadWord, Stored, Gone, moving, Timed, lateOf, Stopped, Turned}
-use Rattle.engine.proofs.Numbers.{below-word}
+use Rattle.engine.proofs.Numbers.{below-word, NoneBehind, behind}
 
 -- ---- truth values
 
@@ -367,19 +367,10 @@ module _ {s : State} {up : Bool} {deadline w a b c : ℕ} (h : Timed s up deadli
 
 -- ---- the other ops
 
--- What is at least k and isn't k is above it.
-pub beyond : {k n : ℕ} → k ≤ n → (n ≡ k → ⊥) → k < n
-beyond {k} {n} l d =
-    ⊎-elim (λ (e : ltb k n ≡ true). ltb-true k n e)
-    (λ (e : ltb k n ≡ false). let g = ltb-false k n e in absurd (d (omega arith))) (either (ltb k n))
-
 -- A number that is none of 1 to 14 is 0 or above 14.
-pub no-common : (n : ℕ) → (n ≡ 1 → ⊥) → (n ≡ 2 → ⊥) → (n ≡ 3 → ⊥) → (n ≡ 4 → ⊥) → (n ≡ 5 → ⊥) → (n ≡ 6 → ⊥) → (n ≡ 7 → ⊥)
-    → (n ≡ 8 → ⊥) → (n ≡ 9 → ⊥) → (n ≡ 10 → ⊥) → (n ≡ 11 → ⊥) → (n ≡ 12 → ⊥) → (n ≡ 13 → ⊥) → (n ≡ 14 → ⊥) → (n ≡ 0) ⊎ (14 < n)
-no-common zero a b c d e f g h i j k l m o = inl refl
-no-common (suc n) a b c d e f g h i j k l m o =
-    inr
-    (beyond (beyond (beyond (beyond (beyond (beyond (beyond (beyond (beyond (beyond (beyond (beyond (beyond (beyond (omega arith) a) b) c) d) e) f) g) h) i) j) k) l) m) o)
+pub no-common : (n : ℕ) → NoneBehind 0 14 n → (n ≡ 0) ⊎ (14 < n)
+no-common zero h = inl refl
+no-common (suc n) h = inr (behind 0 14 (omega arith) h)
 
 -- A turn that leaves the state.
 pub stays : (s : State) (deadline : ℕ) (why : Stop) {r : Turn} → r ≡ stopping why (s .control .pc) (s .control .clock) → Stopped why s

@@ -42,10 +42,8 @@ op-is c h f e d = fetch-op h f (c .op-of .ensures) e d
 -- It is no common op, where it has none of their numbers.
 other : (c : tie.At-match-rest) → (opField (word (c .before)) ≡ 0) ⊎ (14 < opField (word (c .before)))
 other c =
-    let known = c .before .op-of in
-    let rest = c .match .rest in
-    subst (λ (n : ℕ). (n ≡ 0) ⊎ (14 < n)) (known .ensures)
-    (no-common (known .result) (rest .0 .0 .0 .0 .0 .0 .0 .0 .0 .0 .0 .0 .0 .1) (rest .0 .0 .0 .0 .0 .0 .0 .0 .0 .0 .0 .0 .1) (rest .0 .0 .0 .0 .0 .0 .0 .0 .0 .0 .0 .1) (rest .0 .0 .0 .0 .0 .0 .0 .0 .0 .0 .1) (rest .0 .0 .0 .0 .0 .0 .0 .0 .0 .1) (rest .0 .0 .0 .0 .0 .0 .0 .0 .1) (rest .0 .0 .0 .0 .0 .0 .0 .1) (rest .0 .0 .0 .0 .0 .0 .1) (rest .0 .0 .0 .0 .0 .1) (rest .0 .0 .0 .0 .1) (rest .0 .0 .0 .1) (rest .0 .0 .1) (rest .0 .1) (rest .1))
+    let at = c .before in
+    subst (λ (n : ℕ). (n ≡ 0) ⊎ (14 < n)) (at .op-of .ensures) (no-common (at .op-of .result) (c .match .rest))
 
 -- ---- the needs
 
@@ -182,51 +180,58 @@ returns : tie.Need-returns
 unfolding decode
 returns c =
     let at = c .before .before .before .before .before in
-    λ s h f. immediate-turn h (fields at) (op-is at h f (c .before .before .before .before .match .keys1) refl) (c .assign .ensures) (c .before .before .one-flows .ensures) (c .before .n-of .ensures) refl
+    λ s h f. immediate-turn h (fields at) (op-is at h f (c .before .before .before .before .match .keys1) refl)
+    (c .assign .ensures) (c .before .before .one-flows .ensures) (c .before .n-of .ensures) refl
 
 returns-2 : tie.Need-returns-2
 unfolding decode compute
 returns-2 c =
     let at = c .before .before .before .before in
-    λ s h f. arithmetic-turn h (fields at) (op-is at h f (c .before .before .before .match .keys2) refl) (c .combine .ensures) (omega arith) (c .before .plus .ensures) refl refl
+    λ s h f. arithmetic-turn h (fields at) (op-is at h f (c .before .before .before .match .keys2) refl)
+    (c .combine .ensures) (omega arith) (c .before .plus .ensures) refl refl
 
 returns-3 : tie.Need-returns-3
 unfolding decode compute
 returns-3 c =
     let at = c .before .before .before .before in
-    λ s h f. arithmetic-turn h (fields at) (op-is at h f (c .before .before .before .match .keys3) refl) (c .combine2 .ensures) (omega arith) (c .before .minus .ensures) refl refl
+    λ s h f. arithmetic-turn h (fields at) (op-is at h f (c .before .before .before .match .keys3) refl)
+    (c .combine2 .ensures) (omega arith) (c .before .minus .ensures) refl refl
 
 returns-4 : tie.Need-returns-4
 unfolding decode compute
 returns-4 c =
     let at = c .before .before .before in
-    λ s h f. arithmetic-turn h (fields at) (op-is at h f (c .before .before .match .keys4) refl) (c .combine3 .ensures) (omega arith) refl refl refl
+    λ s h f. arithmetic-turn h (fields at) (op-is at h f (c .before .before .match .keys4) refl)
+    (c .combine3 .ensures) (omega arith) refl refl refl
 
 returns-5 : tie.Need-returns-5
 unfolding decode compute
 returns-5 c =
     let at = c .before .before .before in
-    λ s h f. arithmetic-turn h (fields at) (op-is at h f (c .before .before .match .keys5) refl) (c .combine4 .ensures) (omega arith) refl refl refl
+    λ s h f. arithmetic-turn h (fields at) (op-is at h f (c .before .before .match .keys5) refl)
+    (c .combine4 .ensures) (omega arith) refl refl refl
 
 returns-6 : tie.Need-returns-6
 unfolding decode compute
 returns-6 c =
     let at = c .before .before .before in
-    λ s h f. arithmetic-turn h (fields at) (op-is at h f (c .before .before .match .keys6) refl) (c .combine5 .ensures) (omega arith) refl refl refl
+    λ s h f. arithmetic-turn h (fields at) (op-is at h f (c .before .before .match .keys6) refl)
+    (c .combine5 .ensures) (omega arith) refl refl refl
 
 returns-7 : tie.Need-returns-7
 unfolding decode compute
 returns-7 c =
     let at = c .before .before .before .before in
-    λ s h f. arithmetic-turn h (fields at) (op-is at h f (c .before .before .before .match .keys7) refl) (c .combine6 .ensures) (omega arith) (c .before .less .ensures) refl refl
+    λ s h f. arithmetic-turn h (fields at) (op-is at h f (c .before .before .before .match .keys7) refl)
+    (c .combine6 .ensures) (omega arith) (c .before .less .ensures) refl refl
 
 returns-8 : tie.Need-returns-8
 unfolding decode compute
 returns-8 c =
     let timed = c .before .before in
     let at = timed .before .before .before .before .before in
-    λ s h f. arithmetic-turn h (fields at) (op-is at h f (timed .before .before .before .before .match .keys8) refl) (c .combine7 .ensures)
-    (timed .multiply-ticks .ensures .1) (timed .before .before .before .product .ensures)
+    λ s h f. arithmetic-turn h (fields at) (op-is at h f (timed .before .before .before .before .match .keys8) refl)
+    (c .combine7 .ensures) (timed .multiply-ticks .ensures .1) (timed .before .before .before .product .ensures)
     (rw (timed .multiply-ticks .ensures .0, timed .before .before .one-flows2 .ensures, timed .before .one-flows3 .ensures)) refl
 
 same-length : tie.Need-same-length
@@ -245,7 +250,8 @@ returns-10 : tie.Need-returns-10
 unfolding decode
 returns-10 c =
     let at = c .before .before .before .before .before .before in
-    λ s h f. store-turn h (fields at) (op-is at h f (c .before .before .before .before .before .match .keys10) refl) (c .before .before .store .ensures) refl
+    λ s h f. store-turn h (fields at) (op-is at h f (c .before .before .before .before .before .match .keys10) refl)
+    (c .before .before .store .ensures) refl
 
 returns-11 : tie.Need-returns-11
 unfolding decode
@@ -263,13 +269,15 @@ returns-13 : tie.Need-returns-13
 unfolding decode
 returns-13 c =
     let at = c .before .before .before in
-    λ s h f. jump-turn h (fields at) (op-is at h f (c .before .before .match .keys13) refl) (c .go .ensures) (c .before .one-flows4 .ensures)
+    λ s h f. jump-turn h (fields at) (op-is at h f (c .before .before .match .keys13) refl)
+    (c .go .ensures) (c .before .one-flows4 .ensures)
 
 returns-14 : tie.Need-returns-14
 unfolding decode
 returns-14 c =
     let at = c .before .before .before .before in
-    λ s h f. clock-turn h (fields at) (op-is at h f (c .before .before .before .match .keys14) refl) (c .assign2 .ensures) (c .before .two-flow .ensures) (started at .pre .4) refl
+    λ s h f. clock-turn h (fields at) (op-is at h f (c .before .before .before .match .keys14) refl)
+    (c .assign2 .ensures) (c .before .two-flow .ensures) (started at .pre .4) refl
 
 returns-15 : tie.Need-returns-15
 returns-15 c =

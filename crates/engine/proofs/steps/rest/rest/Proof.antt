@@ -98,7 +98,7 @@ returns-8 c = rested-halt (c .before .before .op-of .ensures) (c .before .before
 
 returns-9 : tie.Need-returns-9
 unfolding decode table valueAt labelAt newPairAllowed mayUpcall mayCallGate mayReturn inUpcall
-returns-9 c = rested-unknown (c .before .before .op-of .ensures) (c .before .before .before .before .is-upcall .ensures) (c .before .before .before .before .before .pre .0) (c .before .match .rest .0 .0 .0 .0 .0 .0 .0 .1) (c .before .match .rest .0 .0 .0 .0 .0 .0 .1) (c .before .match .rest .0 .0 .0 .0 .0 .1) (c .before .match .rest .0 .0 .0 .0 .1) (c .before .match .rest .0 .0 .0 .1) (c .before .match .rest .0 .0 .1) (c .before .match .rest .0 .1) (c .before .match .rest .1) (c .fault .ensures)
+returns-9 c = rested-unknown (c .before .before .op-of .ensures) (c .before .before .before .before .is-upcall .ensures) (c .before .before .before .before .before .pre .0) (c .before .match .rest) (c .fault .ensures)
 
 pub rest-spec : {M : Type 1} → statement M
 rest-spec =
