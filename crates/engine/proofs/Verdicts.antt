@@ -195,46 +195,54 @@ plan-op : (s : State) (w : ℕ) {op : Op} {n k : ℕ} → n ≡ opField w → n 
     → plan s (fetched w op) ≡ plan s (known w (decode (opField w)))
 plan-op s w q e d = ap (λ (o : Option Op). plan s (known w o)) (sym (ap decode (sym q ∙ e) ∙ d))
 
-module _ {w pc errorpc p t clock : ℕ} {call : Call} {count : ℕ} {gates : List CallGate} {values labels : List ℕ} {r : Verdict} {n : ℕ} (at-op : n ≡ opField w) {up : Bool} (u : up ≡ isUpcall call) where
+-- What is known where the op of w is looked at: its number n, whether the newest call is an upcall, its end tick, and that the
+-- pc has a next one.
+pub record Looked (w pc : ℕ) (call : Call) (n : ℕ) (up : Bool) (end : ℕ) : Type 0 where
+  pub op : n ≡ opField w
+  pub upcall : up ≡ isUpcall call
+  pub tick : end ≡ endTickOf call
+  pub within : pc < mostWords
+
+module _ {w pc errorpc p t clock : ℕ} {call : Call} {count : ℕ} {gates : List CallGate} {values labels : List ℕ} {r : Verdict} {n : ℕ} {up : Bool} {end : ℕ} (l : Looked w pc call n up end) where
   -- An op that acts in so many ticks, where its check passes.
-  pub rested-row : {k : ℕ} {op : Op} → n ≡ k → decode k ≡ some op → {end : ℕ} → end ≡ endTickOf call → {check : Bool} {change : Change} {act : Act} {ticks : ℕ}
-      → Acts check change act → Timely up end clock ticks act r → ticks ≤ 10 → pc < mostWords
+  pub rested-row : {k : ℕ} {op : Op} → n ≡ k → decode k ≡ some op → {check : Bool} {change : Change} {act : Act} {ticks : ℕ}
+      → Acts check change act → Timely up end clock ticks act r → ticks ≤ 10
       → ((s : State) (limit : ℕ) → newest (stoppedAt s errorpc limit count gates pc p t clock values labels .control) ≡ call
       → table (stoppedAt s errorpc limit count gates pc p t clock values labels) w op ≡ row check (does change) ticks)
       → Rested w pc errorpc p t clock call count gates values labels r
-  rested-row {k} {op} e d f a m short within row-is =
+  rested-row {k} {op} e d a m short row-is =
       record {
         is =
             λ s limit c.
             m .is
             ∙ timely-row (stoppedAt s errorpc limit count gates pc p t clock values labels) w op
-            (stopped-upcall s errorpc limit count gates pc p t clock values labels c u)
-            (stopped-end s errorpc limit count gates pc p t clock values labels c f) a
+            (stopped-upcall s errorpc limit count gates pc p t clock values labels c (l .upcall))
+            (stopped-end s errorpc limit count gates pc p t clock values labels c (l .tick)) a
             (row-is s limit (stopped-newest s errorpc limit count gates pc p t clock values labels c))
-            ∙ plan-op _ w at-op e d;
-        held = m .held pc (a .writes pc within);
+            ∙ plan-op _ w (l .op) e d;
+        held = m .held pc (a .writes pc (l .within));
         short = m .short short;
       }
 
   -- Op 19.
-  pub rested-end : n ≡ 19 → pc < mostWords → r ≡ cond up (Close 1) (Carry 1 Pass)
+  pub rested-end : n ≡ 19 → r ≡ cond up (Close 1) (Carry 1 Pass)
       → Rested w pc errorpc p t clock call count gates values labels r
   unfolding decode
-  rested-end e within q =
+  rested-end e q =
       record {
         is =
             λ s limit c.
             ap decisionOf q
             ∙ end-row (stoppedAt s errorpc limit count gates pc p t clock values labels) w up
-            (stopped-upcall s errorpc limit count gates pc p t clock values labels c u)
-            ∙ plan-op _ w at-op e refl;
+            (stopped-upcall s errorpc limit count gates pc p t clock values labels c (l .upcall))
+            ∙ plan-op _ w (l .op) e refl;
         held = rw q (go up);
         short = rw q (few up);
       }
     where
       go : (b : Bool) → Held (cond b (Close 1) (Carry 1 Pass)) pc
       go true = tt
-      go false = within
+      go false = l .within
 
       few : (b : Bool) → Short (cond b (Close 1) (Carry 1 Pass))
       few true = tt
@@ -249,8 +257,8 @@ module _ {w pc errorpc p t clock : ℕ} {call : Call} {count : ℕ} {gates : Lis
             λ s limit c.
             ap decisionOf q
             ∙ halt-row (stoppedAt s errorpc limit count gates pc p t clock values labels) w up
-            (stopped-upcall s errorpc limit count gates pc p t clock values labels c u)
-            ∙ plan-op _ w at-op e refl;
+            (stopped-upcall s errorpc limit count gates pc p t clock values labels c (l .upcall))
+            ∙ plan-op _ w (l .op) e refl;
         held = rw q (go up);
         short = rw q (few up);
       }
@@ -273,14 +281,14 @@ module _ {w pc errorpc p t clock : ℕ} {call : Call} {count : ℕ} {gates : Lis
             λ s limit c.
             q .0
             ∙ fault-is (stoppedAt s errorpc limit count gates pc p t clock values labels) 3
-            (stopped-upcall s errorpc limit count gates pc p t clock values labels c u)
-            ∙ ap (λ (o : Option Op). plan (stoppedAt s errorpc limit count gates pc p t clock values labels) (known w o)) (sym (ap decode (sym at-op) ∙ unknown));
+            (stopped-upcall s errorpc limit count gates pc p t clock values labels c (l .upcall))
+            ∙ ap (λ (o : Option Op). plan (stoppedAt s errorpc limit count gates pc p t clock values labels) (known w o)) (sym (ap decode (sym (l .op)) ∙ unknown));
         held = q .1;
         short = q .2;
       }
     where
       unknown : decode n ≡ none
-      unknown = unknown-op n (subst (λ (m : ℕ). (m ≡ 0) ⊎ (14 < m)) (sym at-op) o) other
+      unknown = unknown-op n (subst (λ (m : ℕ). (m ≡ 0) ⊎ (14 < m)) (sym (l .op)) o) other
 
 -- ---- the plan for a reason to stop
 
