@@ -323,7 +323,8 @@ module _ {s : State} {up : Bool} {deadline w a b c : ℕ} (h : Timed s up deadli
 
   -- Ops 2 to 8: register a gets v, computed from the registers b and c.
   pub arithmetic-turn : {o : Arithmetic} → fetch s ≡ fetched w (arithmetic o) → {v k : ℕ} {values words : List ℕ}
-      → Assigned (s .registers .values) a (flows (join (join (s .control .pair .pc) (labelOf s b)) (labelOf s c)) (labelOf s a)) v k (s .control .pc) (s .control .clock) deadline r values
+      → Assigned (s .registers .values) a (flows (join (join (s .control .pair .pc) (labelOf s b)) (labelOf s c)) (labelOf s a)) v k
+      (s .control .pc) (s .control .clock) deadline r values
       → 0 < k → v ≡ compute o (valueOf s b) (valueOf s c)
       → k ≡ arithmeticTicks o (flows (labelOf s b) (s .control .pair .timing) && flows (labelOf s c) (s .control .pair .timing)) (valueOf s c)
       → words ≡ s .memory .values → Turned s deadline r values words
@@ -332,21 +333,24 @@ module _ {s : State} {up : Bool} {deadline w a b c : ℕ} (h : Timed s up deadli
 
   -- Op 9.
   pub load-turn : fetch s ≡ fetched w load → {values words : List ℕ}
-      → ReadWord (s .registers .values) (s .memory .values) (s .memory .labels) a (valueOf s b) (s .control .pair .pc) (labelOf s b) (labelOf s a) (s .fixed .size) (s .control .pc) (s .control .clock) deadline r values
+      → ReadWord (s .registers .values) (s .memory .values) (s .memory .labels) a (valueOf s b) (s .control .pair .pc) (labelOf s b)
+      (labelOf s a) (s .fixed .size) (s .control .pc) (s .control .clock) deadline r values
       → words ≡ s .memory .values → Turned s deadline r values words
   unfolding table valueAt labelAt
   load-turn f e ew = loads-row h f e (rw (i .ra, i .rb)) ew
 
   -- Op 10.
   pub store-turn : fetch s ≡ fetched w store → {values words : List ℕ}
-      → Stored (s .memory .values) (s .memory .labels) (valueOf s b) (valueOf s a) (s .control .pair .pc) (labelOf s b) (labelOf s a) (s .fixed .size) (s .control .pc) (s .control .clock) deadline r words
+      → Stored (s .memory .values) (s .memory .labels) (valueOf s b) (valueOf s a) (s .control .pair .pc) (labelOf s b)
+      (labelOf s a) (s .fixed .size) (s .control .pc) (s .control .clock) deadline r words
       → values ≡ s .registers .values → Turned s deadline r values words
   unfolding table valueAt labelAt
   store-turn f e ev = stores-row h f e (rw (i .ra, i .rb)) ev
 
   -- Ops 11 and 12: on at n where the comparison of the registers a and b holds.
   pub branch-turn : {o : Comparison} → fetch s ≡ fetched w (branch o) → {taken : Bool}
-      → Gone (flows (join (labelOf s a) (labelOf s b)) (s .control .pair .pc)) (cond taken (nField w) (s .control .pc + 1)) up (s .control .pc) (s .control .clock) deadline r
+      → Gone (flows (join (labelOf s a) (labelOf s b)) (s .control .pair .pc)) (cond taken (nField w) (s .control .pc + 1)) up
+      (s .control .pc) (s .control .clock) deadline r
       → taken ≡ holds o (valueOf s a) (valueOf s b) → Turned s deadline r (s .registers .values) (s .memory .values)
   unfolding table valueAt labelAt
   branch-turn f e q = goes-row h f e (rw (q, i .ra, i .rb)) refl refl

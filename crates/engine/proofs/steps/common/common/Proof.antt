@@ -30,13 +30,15 @@ abbrev word : tie.After-op-of → ℕ
 word c = started c .args .w
 
 -- The numbers of its registers.
-fields : (c : tie.After-op-of) → Fields (word c) (read c .before .before .a-of .result) (read c .before .b-of .result) (read c .c-of .result)
+fields : (c : tie.After-op-of)
+    → Fields (word c) (read c .before .before .a-of .result) (read c .before .b-of .result) (read c .c-of .result)
 fields c =
     record { ra = read c .before .before .a-of .ensures .0; rb = read c .before .b-of .ensures .0; rc = read c .c-of .ensures .0 }
 
 -- Its op, where that has the number k.
 op-is : (c : tie.After-op-of) {s : State} {up : Bool} {deadline k : ℕ} {op : Op} → Timed s up deadline
-    → fetch s ≡ known (word c) (decode (opField (word c))) → c .op-of .result ≡ k → decode k ≡ some op → fetch s ≡ fetched (word c) op
+    → fetch s ≡ known (word c) (decode (opField (word c))) → c .op-of .result ≡ k → decode k ≡ some op
+    → fetch s ≡ fetched (word c) op
 op-is c h f e d = fetch-op h f (c .op-of .ensures) e d
 
 -- It is no common op, where it has none of their numbers.
@@ -285,7 +287,8 @@ returns-15 c =
     let start = started at in
     let context = start .args .context in
     λ s h f. stays
-    (view s (context .size) (context .p) (context .t) (start .args .pc) (start .args .clock) (now (start .args .values)) (now (start .args .labels)) (now (start .args .words)) (now (start .args .marks)))
+    (view s (context .size) (context .p) (context .t) (start .args .pc) (start .args .clock) (now (start .args .values))
+    (now (start .args .labels)) (now (start .args .words)) (now (start .args .marks)))
     (context .deadline) (Rest (start .args .w)) (c .stopping .ensures) (record { word = f; within = start .pre .2; op = other (c .before) })
 
 pub common-spec : {M : Type 1} → statement M

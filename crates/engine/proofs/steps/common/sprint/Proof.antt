@@ -13,7 +13,9 @@ use Rattle.engine.proofs.steps.common.sprint.Statement.{statement}
 use Rattle.engine.proofs.steps.common.sprint.Tie as tie
 
 abbrev Inv-loop : tie.InvT-loop
-Inv-loop context pc0 clock0 left0 values₀ labels words₀ marks pc₀ clock₀ left₀ values words pc clock left = Ran (context .size) (context .p) (context .t) (context .up) (context .deadline) labels marks pc0 clock0 left0 values₀ words₀ pc clock left values words
+Inv-loop context pc0 clock0 left0 values₀ labels words₀ marks pc₀ clock₀ left₀ values words pc clock left =
+    Ran (context .size) (context .p) (context .t) (context .up) (context .deadline) labels marks pc0 clock0 left0 values₀
+    words₀ pc clock left values words
 
 abbrev μ-loop : tie.MeasureT-loop
 μ-loop context pc0 clock0 left0 values₀ labels words₀ marks pc₀ clock₀ left₀ values words pc clock left = left

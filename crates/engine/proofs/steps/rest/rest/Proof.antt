@@ -16,7 +16,8 @@ abbrev started : tie.After-op-of → tie.Start
 started c = c .before .before .before
 
 looked : (c : tie.After-op-of)
-    → Looked (started c .args .w) (started c .args .pc) (started c .args .call) (c .op-of .result) (c .before .before .is-upcall .result) (c .before .end-tick .result)
+    → Looked (started c .args .w) (started c .args .pc) (started c .args .call) (c .op-of .result)
+    (c .before .before .is-upcall .result) (c .before .end-tick .result)
 looked c =
     record {
       op = c .op-of .ensures;
