@@ -29,23 +29,27 @@ gate-rows = record { none = refl; join = gates-append; span = length-gates }
 
 -- The words of the four parts of a record, put one behind another.
 pub put-parts :
-    (b : List ℕ) (r : Machine) {b₁ b₂ b₃ b₄ : List ℕ} → length (r .fixed .gates) ≡ mostGates → length (r .registers .values) ≡ registerCount
+    (b : List ℕ) (r : Machine) {b₁ b₂ b₃ b₄ : List ℕ} → length (r .fixed .gates) ≡ mostGates
+    → length (r .registers .values) ≡ registerCount
     → b₁ ≡ sets b at.size (fixedWords (r .fixed)) → b₂ ≡ sets b₁ at.pc (controlWords (r .control))
     → b₃ ≡ sets b₂ at.firstValue (r .registers .values) → b₄ ≡ sets b₃ at.firstLabel (r .registers .labels) → b₄ ≡ sets b 0 (wordsOf r)
 unfolding wordsOf
 put-parts b r {b₁} {b₂} {b₃} {b₄} g v p q s t =
-    let f : length (fixedWords (r .fixed)) ≡ 28 = rw (length-gates, g) refl in
+    let fs : List ℕ = fixedWords (r .fixed) in
+    let f : length fs ≡ at.pc = rw (length-gates, g) refl in
     let c : List ℕ = controlWords (r .control) in
     let vs : List ℕ = r .registers .values in
     let ls : List ℕ = r .registers .labels in
-    t ∙ ap (λ (x : List ℕ). sets x 60 ls) (s ∙ ap (λ (x : List ℕ). sets x 44 vs) (q ∙ ap (λ (x : List ℕ). sets x 28 c) p))
-    ∙ sets-then (sets (sets b 0 (fixedWords (r .fixed))) 28 c) 44 vs ls (rw v refl)
-    ∙ sets-then (sets b 0 (fixedWords (r .fixed))) 28 c (vs ++ ls) refl
-    ∙ sets-then b 0 (fixedWords (r .fixed)) (c ++ (vs ++ ls)) (rw f refl)
+    t
+    ∙ ap (λ (x : List ℕ). sets x at.firstLabel ls)
+    (s ∙ ap (λ (x : List ℕ). sets x at.firstValue vs) (q ∙ ap (λ (x : List ℕ). sets x at.pc c) p))
+    ∙ sets-then (sets (sets b at.size fs) at.pc c) at.firstValue vs ls (rw v refl)
+    ∙ sets-then (sets b at.size fs) at.pc c (vs ++ ls) refl
+    ∙ sets-then b at.size fs (c ++ (vs ++ ls)) (rw f refl)
 
 pub length-words :
-    (r : Machine) → length (r .fixed .gates) ≡ mostGates → length (r .registers .values) ≡ registerCount → length (r .registers .labels) ≡ registerCount
-    → length (wordsOf r) ≡ at.span
+    (r : Machine) → length (r .fixed .gates) ≡ mostGates → length (r .registers .values) ≡ registerCount
+    → length (r .registers .labels) ≡ registerCount → length (wordsOf r) ≡ at.span
 unfolding wordsOf
 length-words r g v l =
     simp (length-append, length-gates, g, v, l) refl

@@ -78,6 +78,12 @@ witness-timed true deadline size p t pc clock values labels words marks =
 
 -- ---- the loop
 
+-- What a turn from this pc and clock, with these values and words, leaves for every state with the loop's deadline.
+abbrev pub Leaves : ℕ → ℕ → ℕ → Bool → ℕ → List ℕ → List ℕ → ℕ → ℕ → List ℕ → List ℕ → Turn → List ℕ → List ℕ → Type 0
+Leaves size p t up deadline labels marks pc clock values words r values′ words′ =
+    (s : State) → Timed (view s size p t pc clock values labels words marks) up deadline
+    → Turned (view s size p t pc clock values labels words marks) deadline r values′ words′
+
 -- What holds at the loop's test, of the values at its start and those of now.
 pub record Ran (size p t : ℕ) (up : Bool) (deadline : ℕ) (labels marks : List ℕ) (pc₀ clock₀ left₀ : ℕ) (values₀ words₀ : List ℕ) (pc clock left : ℕ) (values words : List ℕ) : Type 0 where
   pub run :
@@ -114,7 +120,7 @@ module _ {size p t : ℕ} {up : Bool} {deadline : ℕ} {labels marks : List ℕ}
     stopped stop q h =
         rw q (record { run = r .run; paused = λ s x. pauses stop left _ more (h s); bounded = r .bounded; fewer = r .fewer })
 
-    module _ {turn : Turn} {values′ words′ : List ℕ} (h : (s : State) → Timed (view s size p t pc clock values labels words marks) up deadline → Turned (view s size p t pc clock values labels words marks) deadline turn values′ words′) where
+    module _ {turn : Turn} {values′ words′ : List ℕ} (h : Leaves size p t up deadline labels marks pc clock values words turn values′ words′) where
       -- After a turn that did a step.
       pub ran-more : turn .done ≡ true → length words′ ≡ length words
           → Ran size p t up deadline labels marks pc₀ clock₀ left₀ values₀ words₀ (turn .pc) (turn .clock) (left - 1) values′ words′

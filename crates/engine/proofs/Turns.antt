@@ -5,16 +5,17 @@ use Prim.Native.Nat.{ℕ, zero, suc, _+_, _≤_, _<_}
 use mathlib.Core.Path.{_≡_, refl, sym, ap, _∙_, subst}
 use mathlib.Core.Bool.{Bool, true, false, not, _&&_, _||_, cond, true≢false, false≢true}
 use mathlib.Core.List.{List}
-use mathlib.Core.Logic.{_⊎_, inl, inr, ⊎-elim}
+use mathlib.Core.Logic.{_⊎_, inl, inr}
 use mathlib.Core.Option.{some}
 use native.Mathlib.Omega.{arith}
 use borrow.Author.Tests.{ltb-true, ltb-false, leb-true, leb-false, lt-ltb, le-ltb, eq-eqb, ne-eqb}
 use lib.Dec.{leb, ltb, eqb}
 use lib.ListN.{getD, set}
 use Rattle.labels.specs.Label.{flows, join}
-use Rattle.model.specs.Record.{State, register, word, inUpcall}
-use Rattle.model.specs.Word.{Op, immediate, arithmetic, load, store, branch, jump, readClock, setLabel, setPair, upcall, endUpcall, gateCall, gateReturn, halt, opField, decode}
-use Rattle.model.specs.Ops.{Write, nothing, value, label, Change, write, goto, enter, openUpcall, openGate, closeGate, stop, Effect, does, ends, Row, row, strictRow, table}
+use Rattle.model.specs.Numbers.{mostTicks}
+use Rattle.model.specs.Record.{State, register, word, valueAt, labelAt, inUpcall}
+use Rattle.model.specs.Word.{Arithmetic, Comparison, Op, immediate, arithmetic, load, store, branch, jump, readClock, setLabel, setPair, upcall, endUpcall, gateCall, gateReturn, halt, opField, aField, bField, cField, nField, decode, compute}
+use Rattle.model.specs.Ops.{arithmeticTicks, holds, Write, nothing, value, label, Change, write, goto, enter, openUpcall, openGate, closeGate, stop, Effect, does, ends, Row, row, strictRow, table}
 use Rattle.model.specs.Step.{spend, close, carry, fetch, fetched, known, endTick, finish, attempt, inTime, plan, beyondLimit, inLimit, running, decide, written, writeOf, changed, controlAfter, apply, step}
 use Rattle.model.proofs.Truth.{either}
 use Rattle.engine.specs.declared.steps.common.Stop.{Stop}
@@ -23,6 +24,7 @@ use Rattle.engine.specs.declared.steps.common.Turn.{Turn}
 use Rattle.engine.specs.Skim.{isCommonOp, fetchesCommon, isCommon}
 use Rattle.engine.specs.Calls.{deadlineOf}
 use Rattle.engine.specs.Inner.Common.{going, stopping, timed, gone, Assigned, ReadWord, Stored, Gone, moving, Timed, lateOf, Stopped, Turned}
+use Rattle.engine.proofs.Numbers.{below-word, NoneBehind, behind}
 
 -- ---- truth values
 
@@ -230,28 +232,28 @@ module _ {s : State} {up : Bool} {deadline w : ℕ} {op : Op} (h : Timed s up de
   common-row t p = plain-op s w op (subst (λ (r : Row). Plain (r .effect)) (sym t) p)
 
   -- An op that sets register a.
-  pub sets-turn : {a : ℕ} {ok : Bool} {v k : ℕ} {r : Turn} {values words : List ℕ}
+  sets-row : {a : ℕ} {ok : Bool} {v k : ℕ} {r : Turn} {values words : List ℕ}
       → Assigned (s .registers .values) a ok v k (s .control .pc) (s .control .clock) deadline r values → 0 < k
       → table s w op ≡ row ok (does (write (value (register a) v))) k → words ≡ s .memory .values → Turned s deadline r values words
-  sets-turn {a} {ok} {v} {k} e p t ew =
+  sets-row {a} {ok} {v} {k} e p t ew =
       turn h k (write (cond ok (value (register a) v) nothing)) f (common-row t tt) (rw t (attempt-write s ok (value (register a) v) k))
       (s .control .pc + 1) _ _ p (apply-register s ok a v k) (e .turn) (e .values) (kept (leb (s .control .clock + k) deadline) ew)
 
-  -- Op 9.
-  pub loads-turn : {a x p lb la size : ℕ} {r : Turn} {values words : List ℕ}
+  -- An op that does so with word x.
+  loads-row : {a x p lb la size : ℕ} {r : Turn} {values words : List ℕ}
       → ReadWord (s .registers .values) (s .memory .values) (s .memory .labels) a x p lb la size (s .control .pc) (s .control .clock) deadline r values
       → table s w op
       ≡ row (ltb x size && flows (join (join p lb) (getD (s .memory .labels) x 0)) la) (does (write (value (register a) (getD (s .memory .values) x 0)))) 3
       → words ≡ s .memory .values → Turned s deadline r values words
-  loads-turn e t ew = sets-turn (record { turn = e .turn; values = e .values }) (omega arith) t ew
+  loads-row e t ew = sets-row (record { turn = e .turn; values = e .values }) (omega arith) t ew
 
-  -- Op 10.
-  pub stores-turn : {x v p lb la size : ℕ} {r : Turn} {values words : List ℕ}
+  -- An op that sets word x.
+  stores-row : {x v p lb la size : ℕ} {r : Turn} {values words : List ℕ}
       → Stored (s .memory .values) (s .memory .labels) x v p lb la size (s .control .pc) (s .control .clock) deadline r words
       → table s w op
       ≡ row (ltb x size && flows (join (join p lb) la) (getD (s .memory .labels) x 0)) (does (write (value (word x) v))) 3
       → values ≡ s .registers .values → Turned s deadline r values words
-  stores-turn {x} {v} {p} {lb} {la} {size} e t ev =
+  stores-row {x} {v} {p} {lb} {la} {size} e t ev =
       turn h 3 (write (cond ok (value (word x) v) nothing)) f (common-row t tt) (rw t (attempt-write s ok (value (word x) v) 3))
       (s .control .pc + 1) _ _ (omega arith) (apply-word s ok x v 3) (e .turn) (kept (leb (s .control .clock + 3) deadline) ev) (e .words)
     where
@@ -272,11 +274,11 @@ module _ {s : State} {up : Bool} {deadline w : ℕ} {op : Op} (h : Timed s up de
   go-failed t e = rw (f, t, e)
 
   -- A branch or jump.
-  pub goes-turn : {ok : Bool} {n : ℕ} {r : Turn} {values words : List ℕ} → Gone ok n up (s .control .pc) (s .control .clock) deadline r
+  goes-row : {ok : Bool} {n : ℕ} {r : Turn} {values words : List ℕ} → Gone ok n up (s .control .pc) (s .control .clock) deadline r
       → table s w op ≡ strictRow ok (does (goto n)) 1 → values ≡ s .registers .values → words ≡ s .memory .values
       → Turned s deadline r values words
   unfolding gone
-  goes-turn {ok} {n} {r} {values} {words} er t ev ew = go ok up t (h .upcall) (er .turn)
+  goes-row {ok} {n} {r} {values} {words} er t ev ew = go ok up t (h .upcall) (er .turn)
     where
       go : (b u : Bool) → table s w op ≡ strictRow b (does (goto n)) 1 → inUpcall (s .control) ≡ u
           → r ≡ cond b (timed 1 n (s .control .pc) (s .control .clock) deadline)
@@ -296,21 +298,83 @@ module _ {s : State} {up : Bool} {deadline w : ℕ} {op : Op} (h : Timed s up de
             clock = λ m x y. x;
           })
 
+-- ---- the common ops, by the numbers of their registers
+
+-- These numbers stand in the word.
+pub record Fields (w a b c : ℕ) : Type 0 where
+  pub ra : a ≡ aField w
+  pub rb : b ≡ bField w
+  pub rc : c ≡ cField w
+
+-- The value and the label of register k.
+abbrev valueOf : State → ℕ → ℕ
+valueOf s k = getD (s .registers .values) k 0
+
+abbrev labelOf : State → ℕ → ℕ
+labelOf s k = getD (s .registers .labels) k 0
+
+module _ {s : State} {up : Bool} {deadline w a b c : ℕ} (h : Timed s up deadline) (i : Fields w a b c) {r : Turn} where
+  -- Op 1.
+  pub immediate-turn : fetch s ≡ fetched w immediate → {ok : Bool} {v : ℕ} {values words : List ℕ}
+      → Assigned (s .registers .values) a ok v 1 (s .control .pc) (s .control .clock) deadline r values
+      → ok ≡ flows (s .control .pair .pc) (labelOf s a) → v ≡ nField w → words ≡ s .memory .values → Turned s deadline r values words
+  unfolding table labelAt
+  immediate-turn f e eo ev ew = sets-row h f e (omega arith) (rw (eo, ev, i .ra)) ew
+
+  -- Ops 2 to 8: register a gets v, computed from the registers b and c.
+  pub arithmetic-turn : {o : Arithmetic} → fetch s ≡ fetched w (arithmetic o) → {v k : ℕ} {values words : List ℕ}
+      → Assigned (s .registers .values) a (flows (join (join (s .control .pair .pc) (labelOf s b)) (labelOf s c)) (labelOf s a)) v k
+      (s .control .pc) (s .control .clock) deadline r values
+      → 0 < k → v ≡ compute o (valueOf s b) (valueOf s c)
+      → k ≡ arithmeticTicks o (flows (labelOf s b) (s .control .pair .timing) && flows (labelOf s c) (s .control .pair .timing)) (valueOf s c)
+      → words ≡ s .memory .values → Turned s deadline r values words
+  unfolding table valueAt labelAt
+  arithmetic-turn f e p ev ek ew = sets-row h f e p (rw (ev, ek, i .ra, i .rb, i .rc)) ew
+
+  -- Op 9.
+  pub load-turn : fetch s ≡ fetched w load → {values words : List ℕ}
+      → ReadWord (s .registers .values) (s .memory .values) (s .memory .labels) a (valueOf s b) (s .control .pair .pc) (labelOf s b)
+      (labelOf s a) (s .fixed .size) (s .control .pc) (s .control .clock) deadline r values
+      → words ≡ s .memory .values → Turned s deadline r values words
+  unfolding table valueAt labelAt
+  load-turn f e ew = loads-row h f e (rw (i .ra, i .rb)) ew
+
+  -- Op 10.
+  pub store-turn : fetch s ≡ fetched w store → {values words : List ℕ}
+      → Stored (s .memory .values) (s .memory .labels) (valueOf s b) (valueOf s a) (s .control .pair .pc) (labelOf s b)
+      (labelOf s a) (s .fixed .size) (s .control .pc) (s .control .clock) deadline r words
+      → values ≡ s .registers .values → Turned s deadline r values words
+  unfolding table valueAt labelAt
+  store-turn f e ev = stores-row h f e (rw (i .ra, i .rb)) ev
+
+  -- Ops 11 and 12: on at n where the comparison of the registers a and b holds.
+  pub branch-turn : {o : Comparison} → fetch s ≡ fetched w (branch o) → {taken : Bool}
+      → Gone (flows (join (labelOf s a) (labelOf s b)) (s .control .pair .pc)) (cond taken (nField w) (s .control .pc + 1)) up
+      (s .control .pc) (s .control .clock) deadline r
+      → taken ≡ holds o (valueOf s a) (valueOf s b) → Turned s deadline r (s .registers .values) (s .memory .values)
+  unfolding table valueAt labelAt
+  branch-turn f e q = goes-row h f e (rw (q, i .ra, i .rb)) refl refl
+
+  -- Op 13.
+  pub jump-turn : fetch s ≡ fetched w jump → {ok : Bool} → Gone ok (valueOf s b) up (s .control .pc) (s .control .clock) deadline r
+      → ok ≡ flows (labelOf s b) (s .control .pair .pc) → Turned s deadline r (s .registers .values) (s .memory .values)
+  unfolding table valueAt labelAt
+  jump-turn f e eo = goes-row h f e (rw (eo, i .rb)) refl refl
+
+  -- Op 14.
+  pub clock-turn : fetch s ≡ fetched w readClock → {ok : Bool} {values words : List ℕ}
+      → Assigned (s .registers .values) a ok (s .control .clock) 1 (s .control .pc) (s .control .clock) deadline r values
+      → ok ≡ flows (join (s .control .pair .pc) (s .control .pair .timing)) (labelOf s a) → s .control .clock ≤ mostTicks
+      → words ≡ s .memory .values → Turned s deadline r values words
+  unfolding table labelAt
+  clock-turn f e eo q ew = sets-row h f e (omega arith) (rw (below-word q, eo, i .ra)) ew
+
 -- ---- the other ops
 
--- What is at least k and isn't k is above it.
-pub beyond : {k n : ℕ} → k ≤ n → (n ≡ k → ⊥) → k < n
-beyond {k} {n} l d =
-    ⊎-elim (λ (e : ltb k n ≡ true). ltb-true k n e)
-    (λ (e : ltb k n ≡ false). let g = ltb-false k n e in absurd (d (omega arith))) (either (ltb k n))
-
 -- A number that is none of 1 to 14 is 0 or above 14.
-pub no-common : (n : ℕ) → (n ≡ 1 → ⊥) → (n ≡ 2 → ⊥) → (n ≡ 3 → ⊥) → (n ≡ 4 → ⊥) → (n ≡ 5 → ⊥) → (n ≡ 6 → ⊥) → (n ≡ 7 → ⊥)
-    → (n ≡ 8 → ⊥) → (n ≡ 9 → ⊥) → (n ≡ 10 → ⊥) → (n ≡ 11 → ⊥) → (n ≡ 12 → ⊥) → (n ≡ 13 → ⊥) → (n ≡ 14 → ⊥) → (n ≡ 0) ⊎ (14 < n)
-no-common zero a b c d e f g h i j k l m o = inl refl
-no-common (suc n) a b c d e f g h i j k l m o =
-    inr
-    (beyond (beyond (beyond (beyond (beyond (beyond (beyond (beyond (beyond (beyond (beyond (beyond (beyond (beyond (omega arith) a) b) c) d) e) f) g) h) i) j) k) l) m) o)
+pub no-common : (n : ℕ) → NoneBehind 0 14 n → (n ≡ 0) ⊎ (14 < n)
+no-common zero h = inl refl
+no-common (suc n) h = inr (behind 0 14 (omega arith) h)
 
 -- A turn that leaves the state.
 pub stays : (s : State) (deadline : ℕ) (why : Stop) {r : Turn} → r ≡ stopping why (s .control .pc) (s .control .clock) → Stopped why s

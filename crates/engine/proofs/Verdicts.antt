@@ -24,7 +24,8 @@ use Rattle.engine.specs.declared.steps.rest.Act.{Act}
 use Rattle.engine.specs.declared.steps.rest.Act.the-variants.{Pass, Halt}
 use Rattle.engine.specs.declared.steps.rest.Verdict.{Verdict}
 use Rattle.engine.specs.declared.steps.rest.Verdict.the-variants.{Spend, Stall, Close, Carry}
-use Rattle.engine.proofs.Turns.{cond-same, beyond}
+use Rattle.engine.proofs.Numbers.{NoneBehind, behind}
+use Rattle.engine.proofs.Turns.{cond-same}
 use Rattle.engine.specs.Inner.Common.{lateOf, Uncommon, Stopped}
 use Rattle.engine.specs.Inner.Rest.{changeOf, decisionOf, allowed, Acts, Held, Short, Timely, Limited, stoppedAt, Other, Ready, Rested, Planned, Decided}
 
@@ -137,28 +138,25 @@ unfolding decode
 past-ops zero l = refl
 past-ops (suc n) l = past-end n ops (omega arith)
 
--- A number that is no op's, and none of 15 to 22.
-unknown-op : (n : ℕ) → (n ≡ 0) ⊎ (14 < n) → (n ≡ 15 → ⊥) → (n ≡ 16 → ⊥) → (n ≡ 17 → ⊥) → (n ≡ 18 → ⊥) → (n ≡ 19 → ⊥)
-    → (n ≡ 20 → ⊥) → (n ≡ 21 → ⊥) → (n ≡ 22 → ⊥) → decode n ≡ none
-unknown-op zero o a b c d e f g h = unfold decode in refl
-unknown-op (suc n) o a b c d e f g h =
-    past-ops (suc n)
-    (beyond (beyond (beyond (beyond (beyond (beyond (beyond (beyond (⊎-elim (λ q. absurd (omega arith)) (λ q. q) o) a) b) c) d) e) f) g) h)
+-- A number that is no common op's, and none of 15 to 22.
+unknown-op : (n : ℕ) → (n ≡ 0) ⊎ (14 < n) → NoneBehind 14 8 n → decode n ≡ none
+unknown-op zero o h = unfold decode in refl
+unknown-op (suc n) o h = past-ops (suc n) (behind 14 8 (⊎-elim (λ q. absurd (omega arith)) (λ q. q) o) h)
 
 -- ---- what the newest call says of the state
 
 module _ (s : State) (errorpc limit count : ℕ) (gates : List CallGate) (pc p t clock : ℕ) (values labels : List ℕ) {call : Call} (c : newest (s .control) ≡ call) where
-  stoppedAt-upcall : {up : Bool} → up ≡ isUpcall call → inUpcall (stoppedAt s errorpc limit count gates pc p t clock values labels .control) ≡ up
+  stopped-upcall : {up : Bool} → up ≡ isUpcall call → inUpcall (stoppedAt s errorpc limit count gates pc p t clock values labels .control) ≡ up
   unfolding inUpcall newest
-  stoppedAt-upcall u = ap isUpcall c ∙ sym u
+  stopped-upcall u = ap isUpcall c ∙ sym u
 
-  stoppedAt-end : {end : ℕ} → end ≡ endTickOf call → endTick (stoppedAt s errorpc limit count gates pc p t clock values labels) ≡ end
+  stopped-end : {end : ℕ} → end ≡ endTickOf call → endTick (stoppedAt s errorpc limit count gates pc p t clock values labels) ≡ end
   unfolding endTick newest
-  stoppedAt-end f = ap endTickOf c ∙ sym f
+  stopped-end f = ap endTickOf c ∙ sym f
 
-  pub stoppedAt-newest : newest (stoppedAt s errorpc limit count gates pc p t clock values labels .control) ≡ call
+  pub stopped-newest : newest (stoppedAt s errorpc limit count gates pc p t clock values labels .control) ≡ call
   unfolding newest
-  stoppedAt-newest = c
+  stopped-newest = c
 
 attempt-row : (s : State) (check : Bool) (change : Change) (k : ℕ)
     → attempt s (row check (does change) k) ≡ carry k (cond check change (write nothing))
@@ -197,46 +195,54 @@ plan-op : (s : State) (w : ℕ) {op : Op} {n k : ℕ} → n ≡ opField w → n 
     → plan s (fetched w op) ≡ plan s (known w (decode (opField w)))
 plan-op s w q e d = ap (λ (o : Option Op). plan s (known w o)) (sym (ap decode (sym q ∙ e) ∙ d))
 
-module _ {w pc errorpc p t clock : ℕ} {call : Call} {count : ℕ} {gates : List CallGate} {values labels : List ℕ} {r : Verdict} {n : ℕ} (at-op : n ≡ opField w) {up : Bool} (u : up ≡ isUpcall call) where
+-- What is known where the op of w is looked at: its number n, whether the newest call is an upcall, its end tick, and that the
+-- pc has a next one.
+pub record Looked (w pc : ℕ) (call : Call) (n : ℕ) (up : Bool) (end : ℕ) : Type 0 where
+  pub op : n ≡ opField w
+  pub upcall : up ≡ isUpcall call
+  pub tick : end ≡ endTickOf call
+  pub within : pc < mostWords
+
+module _ {w pc errorpc p t clock : ℕ} {call : Call} {count : ℕ} {gates : List CallGate} {values labels : List ℕ} {r : Verdict} {n : ℕ} {up : Bool} {end : ℕ} (l : Looked w pc call n up end) where
   -- An op that acts in so many ticks, where its check passes.
-  pub rested-row : {k : ℕ} {op : Op} → n ≡ k → decode k ≡ some op → {end : ℕ} → end ≡ endTickOf call → {check : Bool} {change : Change} {act : Act} {ticks : ℕ}
-      → Acts check change act → Timely up end clock ticks act r → ticks ≤ 10 → pc < mostWords
+  pub rested-row : {k : ℕ} {op : Op} → n ≡ k → decode k ≡ some op → {check : Bool} {change : Change} {act : Act} {ticks : ℕ}
+      → Acts check change act → Timely up end clock ticks act r → ticks ≤ 10
       → ((s : State) (limit : ℕ) → newest (stoppedAt s errorpc limit count gates pc p t clock values labels .control) ≡ call
       → table (stoppedAt s errorpc limit count gates pc p t clock values labels) w op ≡ row check (does change) ticks)
       → Rested w pc errorpc p t clock call count gates values labels r
-  rested-row {k} {op} e d f a m short within row-is =
+  rested-row {k} {op} e d a m short row-is =
       record {
         is =
             λ s limit c.
             m .is
             ∙ timely-row (stoppedAt s errorpc limit count gates pc p t clock values labels) w op
-            (stoppedAt-upcall s errorpc limit count gates pc p t clock values labels c u)
-            (stoppedAt-end s errorpc limit count gates pc p t clock values labels c f) a
-            (row-is s limit (stoppedAt-newest s errorpc limit count gates pc p t clock values labels c))
-            ∙ plan-op _ w at-op e d;
-        held = m .held pc (a .writes pc within);
+            (stopped-upcall s errorpc limit count gates pc p t clock values labels c (l .upcall))
+            (stopped-end s errorpc limit count gates pc p t clock values labels c (l .tick)) a
+            (row-is s limit (stopped-newest s errorpc limit count gates pc p t clock values labels c))
+            ∙ plan-op _ w (l .op) e d;
+        held = m .held pc (a .writes pc (l .within));
         short = m .short short;
       }
 
   -- Op 19.
-  pub rested-end : n ≡ 19 → pc < mostWords → r ≡ cond up (Close 1) (Carry 1 Pass)
+  pub rested-end : n ≡ 19 → r ≡ cond up (Close 1) (Carry 1 Pass)
       → Rested w pc errorpc p t clock call count gates values labels r
   unfolding decode
-  rested-end e within q =
+  rested-end e q =
       record {
         is =
             λ s limit c.
             ap decisionOf q
             ∙ end-row (stoppedAt s errorpc limit count gates pc p t clock values labels) w up
-            (stoppedAt-upcall s errorpc limit count gates pc p t clock values labels c u)
-            ∙ plan-op _ w at-op e refl;
+            (stopped-upcall s errorpc limit count gates pc p t clock values labels c (l .upcall))
+            ∙ plan-op _ w (l .op) e refl;
         held = rw q (go up);
         short = rw q (few up);
       }
     where
       go : (b : Bool) → Held (cond b (Close 1) (Carry 1 Pass)) pc
       go true = tt
-      go false = within
+      go false = l .within
 
       few : (b : Bool) → Short (cond b (Close 1) (Carry 1 Pass))
       few true = tt
@@ -251,8 +257,8 @@ module _ {w pc errorpc p t clock : ℕ} {call : Call} {count : ℕ} {gates : Lis
             λ s limit c.
             ap decisionOf q
             ∙ halt-row (stoppedAt s errorpc limit count gates pc p t clock values labels) w up
-            (stoppedAt-upcall s errorpc limit count gates pc p t clock values labels c u)
-            ∙ plan-op _ w at-op e refl;
+            (stopped-upcall s errorpc limit count gates pc p t clock values labels c (l .upcall))
+            ∙ plan-op _ w (l .op) e refl;
         held = rw q (go up);
         short = rw q (few up);
       }
@@ -266,23 +272,23 @@ module _ {w pc errorpc p t clock : ℕ} {call : Call} {count : ℕ} {gates : Lis
       few false = omega arith
 
   -- An unknown op.
-  pub rested-unknown : Other w → (n ≡ 15 → ⊥) → (n ≡ 16 → ⊥) → (n ≡ 17 → ⊥) → (n ≡ 18 → ⊥) → (n ≡ 19 → ⊥) → (n ≡ 20 → ⊥)
-      → (n ≡ 21 → ⊥) → (n ≡ 22 → ⊥) → (decisionOf r ≡ cond up (close 3) (cond (eqb pc errorpc) (stall 3) (carry 1 (goto errorpc)))) × Held r pc × Short r
+  pub rested-unknown : Other w → NoneBehind 14 8 n
+      → (decisionOf r ≡ cond up (close 3) (cond (eqb pc errorpc) (stall 3) (carry 1 (goto errorpc)))) × Held r pc × Short r
       → Rested w pc errorpc p t clock call count gates values labels r
-  rested-unknown o n₁ n₂ n₃ n₄ n₅ n₆ n₇ n₈ q =
+  rested-unknown o other q =
       record {
         is =
             λ s limit c.
             q .0
             ∙ fault-is (stoppedAt s errorpc limit count gates pc p t clock values labels) 3
-            (stoppedAt-upcall s errorpc limit count gates pc p t clock values labels c u)
-            ∙ ap (λ (o : Option Op). plan (stoppedAt s errorpc limit count gates pc p t clock values labels) (known w o)) (sym (ap decode (sym at-op) ∙ unknown));
+            (stopped-upcall s errorpc limit count gates pc p t clock values labels c (l .upcall))
+            ∙ ap (λ (o : Option Op). plan (stoppedAt s errorpc limit count gates pc p t clock values labels) (known w o)) (sym (ap decode (sym (l .op)) ∙ unknown));
         held = q .1;
         short = q .2;
       }
     where
       unknown : decode n ≡ none
-      unknown = unknown-op n (subst (λ (m : ℕ). (m ≡ 0) ⊎ (14 < m)) (sym at-op) o) n₁ n₂ n₃ n₄ n₅ n₆ n₇ n₈
+      unknown = unknown-op n (subst (λ (m : ℕ). (m ≡ 0) ⊎ (14 < m)) (sym (l .op)) o) other
 
 -- ---- the plan for a reason to stop
 
@@ -301,7 +307,7 @@ module _ {stop : Stop} {pc errorpc p t clock : ℕ} {call : Call} {count : ℕ} 
       record {
         is =
             λ s limit e c h.
-            late-is (stoppedAt s errorpc limit count gates pc p t clock values labels) ((rw q at h) .0) (stoppedAt-upcall s errorpc limit count gates pc p t clock values labels c u);
+            late-is (stoppedAt s errorpc limit count gates pc p t clock values labels) ((rw q at h) .0) (stopped-upcall s errorpc limit count gates pc p t clock values labels c u);
         held = rw f (held-of up);
         short = rw f (short-of up);
       }
@@ -331,7 +337,7 @@ module _ {stop : Stop} {pc errorpc p t clock : ℕ} {call : Call} {count : ℕ} 
             running-decides _ e ∙ ap (inLimit _)
             (ap (plan _) (f _ h)
             ∙ sym (q .0 ∙ fault-is (stoppedAt s errorpc limit count gates pc p t clock values labels) why
-            (stoppedAt-upcall s errorpc limit count gates pc p t clock values labels c u)));
+            (stopped-upcall s errorpc limit count gates pc p t clock values labels c u)));
         held = q .1;
         short = q .2;
       }
@@ -365,7 +371,7 @@ module _ {stop : Stop} {pc errorpc p t clock : ℕ} {call : Call} {count : ℕ} 
         is =
             λ s e c h.
             b .is (stoppedAt s errorpc limit count gates pc p t clock values labels) refl refl
-            (stoppedAt-end s errorpc limit count gates pc p t clock values labels c f)
+            (stopped-end s errorpc limit count gates pc p t clock values labels c f)
             ∙ sym (a .is s limit e c h);
         admits = rw (← f) (b .admits pc (a .held));
       }

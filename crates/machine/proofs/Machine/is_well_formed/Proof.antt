@@ -19,7 +19,15 @@ calls-well-formed-requires c κs = search needs
 
 returns : tie.Need-returns
 unfolding wellFormed fixedInRange endInRange
-returns c = rw (c .before .before .before .before .before .fixed-in-range .ensures, c .before .before .before .before .end-in-range .ensures, c .before .is-valid-pair .ensures, c .calls-well-formed .ensures (c .before .before .before .before .before .before .before .before .before .args .self .control))
+returns c =
+    let ended = c .before .before .before .before in
+    let start = ended .before .before .before .before .before in
+    rw (
+      ended .before .fixed-in-range .ensures,
+      ended .end-in-range .ensures,
+      c .before .is-valid-pair .ensures,
+      c .calls-well-formed .ensures (start .args .self .control),
+    )
 
 pub is-well-formed-spec : {M : Type 1} → statement M
 is-well-formed-spec =

@@ -1,20 +1,53 @@
--- `engine::steps::common::common` meets its contract.
+-- `engine::steps::common::common` meets its contract: for each op its turn, from the fields of the word and the op's number.
 -- Assumes nothing.
 use Prim.Native.Nat.{ℕ, _<_}
-use mathlib.Core.Path.{subst, _≡_, refl}
+use mathlib.Core.Path.{_≡_, subst, refl}
+use mathlib.Core.Bool.{Bool}
 use mathlib.Core.Logic.{_⊎_}
+use mathlib.Core.Option.{some}
 use native.Mathlib.Omega.{arith}
 use denote.Ref.{now}
 use borrow.Author.Needs.{needs}
-use Rattle.model.specs.Record.{valueAt, labelAt}
-use Rattle.model.specs.Word.{decode, compute}
-use Rattle.model.specs.Ops.{table}
-use Rattle.engine.specs.Inner.Common.{view}
+use Rattle.model.specs.Record.{State}
+use Rattle.model.specs.Word.{Op, opField, decode, compute}
+use Rattle.model.specs.Step.{known, fetched, fetch}
+use Rattle.engine.specs.Inner.Common.{view, Timed}
 use Rattle.engine.specs.declared.steps.common.Stop.the-variants.{Rest}
-use Rattle.engine.proofs.Turns.{fetch-op, sets-turn, loads-turn, stores-turn, goes-turn, no-common, stays}
-use Rattle.engine.proofs.Numbers.{below-word}
+use Rattle.engine.proofs.Turns.{fetch-op, Fields, immediate-turn, arithmetic-turn, load-turn, store-turn, branch-turn, jump-turn, clock-turn, no-common, stays}
 use Rattle.engine.proofs.steps.common.common.Statement.{statement}
 use Rattle.engine.proofs.steps.common.common.Tie as tie
+
+-- ---- the places: the start, the fields of the word read, and its op known
+
+abbrev read : tie.After-op-of → tie.After-c-of
+read c = c .before .before .before .before .before .before
+
+abbrev started : tie.After-op-of → tie.Start
+started c = read c .before .before .before .before .before
+
+-- The word.
+abbrev word : tie.After-op-of → ℕ
+word c = started c .args .w
+
+-- The numbers of its registers.
+fields : (c : tie.After-op-of)
+    → Fields (word c) (read c .before .before .a-of .result) (read c .before .b-of .result) (read c .c-of .result)
+fields c =
+    record { ra = read c .before .before .a-of .ensures .0; rb = read c .before .b-of .ensures .0; rc = read c .c-of .ensures .0 }
+
+-- Its op, where that has the number k.
+op-is : (c : tie.After-op-of) {s : State} {up : Bool} {deadline k : ℕ} {op : Op} → Timed s up deadline
+    → fetch s ≡ known (word c) (decode (opField (word c))) → c .op-of .result ≡ k → decode k ≡ some op
+    → fetch s ≡ fetched (word c) op
+op-is c h f e d = fetch-op h f (c .op-of .ensures) e d
+
+-- It is no common op, where it has none of their numbers.
+other : (c : tie.At-match-rest) → (opField (word (c .before)) ≡ 0) ⊎ (14 < opField (word (c .before)))
+other c =
+    let at = c .before in
+    subst (λ (n : ℕ). (n ≡ 0) ⊎ (14 < n)) (at .op-of .ensures) (no-common (at .op-of .result) (c .match .rest))
+
+-- ---- the needs
 
 a-of-requires : tie.Need-a-of-requires
 a-of-requires c κs = search needs
@@ -146,70 +179,117 @@ stopping-requires : tie.Need-stopping-requires
 stopping-requires c κs = search needs
 
 returns : tie.Need-returns
-unfolding decode table valueAt labelAt compute
-returns c = λ s h f. sets-turn h (fetch-op h f (c .before .before .before .before .before .op-of .ensures) (c .before .before .before .before .match .keys1) refl) (c .assign .ensures) (omega arith) (rw (c .before .before .one-flows .ensures, c .before .n-of .ensures, c .before .before .before .before .before .before .before .before .before .before .before .before .before .a-of .ensures .0)) refl
+unfolding decode
+returns c =
+    let at = c .before .before .before .before .before in
+    λ s h f. immediate-turn h (fields at) (op-is at h f (c .before .before .before .before .match .keys1) refl)
+    (c .assign .ensures) (c .before .before .one-flows .ensures) (c .before .n-of .ensures) refl
 
 returns-2 : tie.Need-returns-2
-unfolding decode table valueAt labelAt compute
-returns-2 c = λ s h f. sets-turn h (fetch-op h f (c .before .before .before .before .op-of .ensures) (c .before .before .before .match .keys2) refl) (c .combine .ensures) (omega arith) (rw (c .before .plus .ensures, c .before .before .before .before .before .before .before .before .before .before .before .before .a-of .ensures .0, c .before .before .before .before .before .before .before .before .before .before .before .b-of .ensures .0, c .before .before .before .before .before .before .before .before .before .before .c-of .ensures .0)) refl
+unfolding decode compute
+returns-2 c =
+    let at = c .before .before .before .before in
+    λ s h f. arithmetic-turn h (fields at) (op-is at h f (c .before .before .before .match .keys2) refl)
+    (c .combine .ensures) (omega arith) (c .before .plus .ensures) refl refl
 
 returns-3 : tie.Need-returns-3
-unfolding decode table valueAt labelAt compute
-returns-3 c = λ s h f. sets-turn h (fetch-op h f (c .before .before .before .before .op-of .ensures) (c .before .before .before .match .keys3) refl) (c .combine2 .ensures) (omega arith) (rw (c .before .minus .ensures, c .before .before .before .before .before .before .before .before .before .before .before .before .a-of .ensures .0, c .before .before .before .before .before .before .before .before .before .before .before .b-of .ensures .0, c .before .before .before .before .before .before .before .before .before .before .c-of .ensures .0)) refl
+unfolding decode compute
+returns-3 c =
+    let at = c .before .before .before .before in
+    λ s h f. arithmetic-turn h (fields at) (op-is at h f (c .before .before .before .match .keys3) refl)
+    (c .combine2 .ensures) (omega arith) (c .before .minus .ensures) refl refl
 
 returns-4 : tie.Need-returns-4
-unfolding decode table valueAt labelAt compute
-returns-4 c = λ s h f. sets-turn h (fetch-op h f (c .before .before .before .op-of .ensures) (c .before .before .match .keys4) refl) (c .combine3 .ensures) (omega arith) (rw (c .before .before .before .before .before .before .before .before .before .before .before .a-of .ensures .0, c .before .before .before .before .before .before .before .before .before .before .b-of .ensures .0, c .before .before .before .before .before .before .before .before .before .c-of .ensures .0)) refl
+unfolding decode compute
+returns-4 c =
+    let at = c .before .before .before in
+    λ s h f. arithmetic-turn h (fields at) (op-is at h f (c .before .before .match .keys4) refl)
+    (c .combine3 .ensures) (omega arith) refl refl refl
 
 returns-5 : tie.Need-returns-5
-unfolding decode table valueAt labelAt compute
-returns-5 c = λ s h f. sets-turn h (fetch-op h f (c .before .before .before .op-of .ensures) (c .before .before .match .keys5) refl) (c .combine4 .ensures) (omega arith) (rw (c .before .before .before .before .before .before .before .before .before .before .before .a-of .ensures .0, c .before .before .before .before .before .before .before .before .before .before .b-of .ensures .0, c .before .before .before .before .before .before .before .before .before .c-of .ensures .0)) refl
+unfolding decode compute
+returns-5 c =
+    let at = c .before .before .before in
+    λ s h f. arithmetic-turn h (fields at) (op-is at h f (c .before .before .match .keys5) refl)
+    (c .combine4 .ensures) (omega arith) refl refl refl
 
 returns-6 : tie.Need-returns-6
-unfolding decode table valueAt labelAt compute
-returns-6 c = λ s h f. sets-turn h (fetch-op h f (c .before .before .before .op-of .ensures) (c .before .before .match .keys6) refl) (c .combine5 .ensures) (omega arith) (rw (c .before .before .before .before .before .before .before .before .before .before .before .a-of .ensures .0, c .before .before .before .before .before .before .before .before .before .before .b-of .ensures .0, c .before .before .before .before .before .before .before .before .before .c-of .ensures .0)) refl
+unfolding decode compute
+returns-6 c =
+    let at = c .before .before .before in
+    λ s h f. arithmetic-turn h (fields at) (op-is at h f (c .before .before .match .keys6) refl)
+    (c .combine5 .ensures) (omega arith) refl refl refl
 
 returns-7 : tie.Need-returns-7
-unfolding decode table valueAt labelAt compute
-returns-7 c = λ s h f. sets-turn h (fetch-op h f (c .before .before .before .before .op-of .ensures) (c .before .before .before .match .keys7) refl) (c .combine6 .ensures) (omega arith) (rw (c .before .less .ensures, c .before .before .before .before .before .before .before .before .before .before .before .before .a-of .ensures .0, c .before .before .before .before .before .before .before .before .before .before .before .b-of .ensures .0, c .before .before .before .before .before .before .before .before .before .before .c-of .ensures .0)) refl
+unfolding decode compute
+returns-7 c =
+    let at = c .before .before .before .before in
+    λ s h f. arithmetic-turn h (fields at) (op-is at h f (c .before .before .before .match .keys7) refl)
+    (c .combine6 .ensures) (omega arith) (c .before .less .ensures) refl refl
 
 returns-8 : tie.Need-returns-8
-unfolding decode table valueAt labelAt compute
-returns-8 c = λ s h f. sets-turn h (fetch-op h f (c .before .before .before .before .before .before .before .op-of .ensures) (c .before .before .before .before .before .before .match .keys8) refl) (c .combine7 .ensures) (c .before .before .multiply-ticks .ensures .1) (rw (c .before .before .before .before .before .product .ensures, c .before .before .multiply-ticks .ensures .0, c .before .before .before .before .one-flows2 .ensures, c .before .before .before .one-flows3 .ensures, c .before .before .before .before .before .before .before .before .before .before .before .before .before .before .before .a-of .ensures .0, c .before .before .before .before .before .before .before .before .before .before .before .before .before .before .b-of .ensures .0, c .before .before .before .before .before .before .before .before .before .before .before .before .before .c-of .ensures .0)) refl
+unfolding decode compute
+returns-8 c =
+    let timed = c .before .before in
+    let at = timed .before .before .before .before .before in
+    λ s h f. arithmetic-turn h (fields at) (op-is at h f (timed .before .before .before .before .match .keys8) refl)
+    (c .combine7 .ensures) (timed .multiply-ticks .ensures .1) (timed .before .before .before .product .ensures)
+    (rw (timed .multiply-ticks .ensures .0, timed .before .before .one-flows2 .ensures, timed .before .one-flows3 .ensures)) refl
 
 same-length : tie.Need-same-length
 same-length c = search needs
 
 returns-9 : tie.Need-returns-9
-unfolding decode table valueAt labelAt compute
-returns-9 c = λ s h f. loads-turn h (fetch-op h f (c .before .before .before .before .op-of .ensures) (c .before .before .before .match .keys9) refl) (c .load .ensures) (rw (c .before .before .before .before .before .before .before .before .before .before .before .before .a-of .ensures .0, c .before .before .before .before .before .before .before .before .before .before .before .b-of .ensures .0)) refl
+unfolding decode
+returns-9 c =
+    let at = c .before .before .before .before in
+    λ s h f. load-turn h (fields at) (op-is at h f (c .before .before .before .match .keys9) refl) (c .load .ensures) refl
 
 same-length-2 : tie.Need-same-length-2
 same-length-2 c = search needs
 
 returns-10 : tie.Need-returns-10
-unfolding decode table valueAt labelAt compute
-returns-10 c = λ s h f. stores-turn h (fetch-op h f (c .before .before .before .before .before .before .op-of .ensures) (c .before .before .before .before .before .match .keys10) refl) (c .before .before .store .ensures) (rw (c .before .before .before .before .before .before .before .before .before .before .before .before .before .before .a-of .ensures .0, c .before .before .before .before .before .before .before .before .before .before .before .before .before .b-of .ensures .0)) refl
+unfolding decode
+returns-10 c =
+    let at = c .before .before .before .before .before .before in
+    λ s h f. store-turn h (fields at) (op-is at h f (c .before .before .before .before .before .match .keys10) refl)
+    (c .before .before .store .ensures) refl
 
 returns-11 : tie.Need-returns-11
-unfolding decode table valueAt labelAt compute
-returns-11 c = λ s h f. goes-turn h (fetch-op h f (c .before .before .before .op-of .ensures) (c .before .before .match .keys11) refl) (c .branch .ensures) (rw (c .before .before .before .before .before .before .before .before .before .before .before .a-of .ensures .0, c .before .before .before .before .before .before .before .before .before .before .b-of .ensures .0)) refl refl
+unfolding decode
+returns-11 c =
+    let at = c .before .before .before in
+    λ s h f. branch-turn h (fields at) (op-is at h f (c .before .before .match .keys11) refl) (c .branch .ensures) refl
 
 returns-12 : tie.Need-returns-12
-unfolding decode table valueAt labelAt compute
-returns-12 c = λ s h f. goes-turn h (fetch-op h f (c .before .before .before .op-of .ensures) (c .before .before .match .keys12) refl) (c .branch2 .ensures) (rw (c .before .before .before .before .before .before .before .before .before .before .before .a-of .ensures .0, c .before .before .before .before .before .before .before .before .before .before .b-of .ensures .0)) refl refl
+unfolding decode
+returns-12 c =
+    let at = c .before .before .before in
+    λ s h f. branch-turn h (fields at) (op-is at h f (c .before .before .match .keys12) refl) (c .branch2 .ensures) refl
 
 returns-13 : tie.Need-returns-13
-unfolding decode table valueAt labelAt compute
-returns-13 c = λ s h f. goes-turn h (fetch-op h f (c .before .before .before .op-of .ensures) (c .before .before .match .keys13) refl) (c .go .ensures) (rw (c .before .one-flows4 .ensures, c .before .before .before .before .before .before .before .before .before .before .b-of .ensures .0)) refl refl
+unfolding decode
+returns-13 c =
+    let at = c .before .before .before in
+    λ s h f. jump-turn h (fields at) (op-is at h f (c .before .before .match .keys13) refl)
+    (c .go .ensures) (c .before .one-flows4 .ensures)
 
 returns-14 : tie.Need-returns-14
-unfolding decode table valueAt labelAt compute
-returns-14 c = λ s h f. sets-turn h (fetch-op h f (c .before .before .before .before .op-of .ensures) (c .before .before .before .match .keys14) refl) (c .assign2 .ensures) (omega arith) (rw (below-word (c .before .before .before .before .before .before .before .before .before .before .before .before .before .before .before .pre .4), c .before .two-flow .ensures, c .before .before .before .before .before .before .before .before .before .before .before .before .a-of .ensures .0)) refl
+unfolding decode
+returns-14 c =
+    let at = c .before .before .before .before in
+    λ s h f. clock-turn h (fields at) (op-is at h f (c .before .before .before .match .keys14) refl)
+    (c .assign2 .ensures) (c .before .two-flow .ensures) (started at .pre .4) refl
 
 returns-15 : tie.Need-returns-15
-unfolding decode table valueAt labelAt compute
-returns-15 c = λ s h f. stays (view s (c .before .before .before .before .before .before .before .before .before .before .before .before .before .args .context .size) (c .before .before .before .before .before .before .before .before .before .before .before .before .before .args .context .p) (c .before .before .before .before .before .before .before .before .before .before .before .before .before .args .context .t) (c .before .before .before .before .before .before .before .before .before .before .before .before .before .args .pc) (c .before .before .before .before .before .before .before .before .before .before .before .before .before .args .clock) (now (c .before .before .before .before .before .before .before .before .before .before .before .before .before .args .values)) (now (c .before .before .before .before .before .before .before .before .before .before .before .before .before .args .labels)) (now (c .before .before .before .before .before .before .before .before .before .before .before .before .before .args .words)) (now (c .before .before .before .before .before .before .before .before .before .before .before .before .before .args .marks))) (c .before .before .before .before .before .before .before .before .before .before .before .before .before .args .context .deadline) (Rest (c .before .before .before .before .before .before .before .before .before .before .before .before .before .args .w)) (c .stopping .ensures) (record { word = f; within = c .before .before .before .before .before .before .before .before .before .before .before .before .before .pre .2; op = subst (λ (n : ℕ). (n ≡ 0) ⊎ (14 < n)) (c .before .before .op-of .ensures) (no-common (c .before .before .op-of .result) (c .before .match .rest .0 .0 .0 .0 .0 .0 .0 .0 .0 .0 .0 .0 .0 .1) (c .before .match .rest .0 .0 .0 .0 .0 .0 .0 .0 .0 .0 .0 .0 .1) (c .before .match .rest .0 .0 .0 .0 .0 .0 .0 .0 .0 .0 .0 .1) (c .before .match .rest .0 .0 .0 .0 .0 .0 .0 .0 .0 .0 .1) (c .before .match .rest .0 .0 .0 .0 .0 .0 .0 .0 .0 .1) (c .before .match .rest .0 .0 .0 .0 .0 .0 .0 .0 .1) (c .before .match .rest .0 .0 .0 .0 .0 .0 .0 .1) (c .before .match .rest .0 .0 .0 .0 .0 .0 .1) (c .before .match .rest .0 .0 .0 .0 .0 .1) (c .before .match .rest .0 .0 .0 .0 .1) (c .before .match .rest .0 .0 .0 .1) (c .before .match .rest .0 .0 .1) (c .before .match .rest .0 .1) (c .before .match .rest .1)) })
+returns-15 c =
+    let at = c .before .before in
+    let start = started at in
+    let context = start .args .context in
+    λ s h f. stays
+    (view s (context .size) (context .p) (context .t) (start .args .pc) (start .args .clock) (now (start .args .values))
+    (now (start .args .labels)) (now (start .args .words)) (now (start .args .marks)))
+    (context .deadline) (Rest (start .args .w)) (c .stopping .ensures) (record { word = f; within = start .pre .2; op = other (c .before) })
 
 pub common-spec : {M : Type 1} → statement M
 common-spec =

@@ -20,10 +20,24 @@ flows-to-requires : tie.Need-flows-to-requires
 flows-to-requires c κs = search needs
 
 returns : tie.Need-returns
-returns c = record { is = rw (← c .before .before .before .before .before .is-gate .ensures, c .before .before .before .before .if1 .taken, ← c .before .before .before .before .before .before .kept-pair .ensures, ← c .before .before .before .join .ensures, ← c .before .before .meet .ensures, ← c .before .flows-to .ensures, c .if2 .taken); writes = λ pc h. tt }
+returns c =
+    let at = c .before .before .before .before in
+    record {
+      is =
+          rw
+          (← at .before .is-gate .ensures, at .if1 .taken, ← at .before .before .kept-pair .ensures, ← c .before .before .before .join .ensures, ← c .before .before .meet .ensures, ← c .before .flows-to .ensures, c .if2 .taken);
+      writes = λ pc h. tt;
+    }
 
 returns-2 : tie.Need-returns-2
-returns-2 c = record { is = rw (← c .before .before .before .before .before .is-gate .ensures, c .before .before .before .before .if1 .taken, ← c .before .before .before .before .before .before .kept-pair .ensures, ← c .before .before .before .join .ensures, ← c .before .before .meet .ensures, ← c .before .flows-to .ensures, c .if2 .left); writes = λ pc h. h }
+returns-2 c =
+    let at = c .before .before .before .before in
+    record {
+      is =
+          rw
+          (← at .before .is-gate .ensures, at .if1 .taken, ← at .before .before .kept-pair .ensures, ← c .before .before .before .join .ensures, ← c .before .before .meet .ensures, ← c .before .flows-to .ensures, c .if2 .left);
+      writes = λ pc h. h;
+    }
 
 returns-3 : tie.Need-returns-3
 returns-3 c = search needs

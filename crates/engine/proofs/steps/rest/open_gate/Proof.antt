@@ -21,10 +21,24 @@ may-enter-requires : tie.Need-may-enter-requires
 may-enter-requires c κs = search needs
 
 returns : tie.Need-returns
-returns c = record { is = rw (← c .before .before .before .before .before .before .before .is-empty .ensures, c .before .before .before .before .before .before .if1 .taken, lt-ltb _ _ (c .before .before .before .before .before .if2 .taken), ← c .before .before .before .before .index .ensures, ← c .before .may-enter .ensures, c .if3 .taken); writes = λ pc h. h }
+returns c =
+    let at = c .before .before .before .before in
+    record {
+      is =
+          rw
+          (← at .before .before .before .is-empty .ensures, at .before .before .if1 .taken, lt-ltb _ _ (at .before .if2 .taken), ← at .index .ensures, ← c .before .may-enter .ensures, c .if3 .taken);
+      writes = λ pc h. h;
+    }
 
 returns-2 : tie.Need-returns-2
-returns-2 c = record { is = rw (← c .before .before .before .before .before .before .before .is-empty .ensures, c .before .before .before .before .before .before .if1 .taken, lt-ltb _ _ (c .before .before .before .before .before .if2 .taken), ← c .before .before .before .before .index .ensures, ← c .before .may-enter .ensures, c .if3 .left); writes = λ pc h. h }
+returns-2 c =
+    let at = c .before .before .before .before in
+    record {
+      is =
+          rw
+          (← at .before .before .before .is-empty .ensures, at .before .before .if1 .taken, lt-ltb _ _ (at .before .if2 .taken), ← at .index .ensures, ← c .before .may-enter .ensures, c .if3 .left);
+      writes = λ pc h. h;
+    }
 
 returns-3 : tie.Need-returns-3
 returns-3 c = record { is = rw (← c .before .before .is-empty .ensures, c .before .if1 .taken, le-ltb _ _ (c .if2 .left)); writes = λ pc h. h }

@@ -6,9 +6,27 @@ use borrow.Author.Needs.{needs}
 use Rattle.model.specs.Record.{valueAt, labelAt, inUpcall}
 use Rattle.model.specs.Word.{decode}
 use Rattle.model.specs.Ops.{table, newPairAllowed, mayUpcall, mayCallGate, mayReturn}
-use Rattle.engine.proofs.Verdicts.{rested-row, rested-end, rested-halt, rested-unknown}
+use Rattle.engine.proofs.Verdicts.{Looked, rested-row, rested-end, rested-halt, rested-unknown}
 use Rattle.engine.proofs.steps.rest.rest.Statement.{statement}
 use Rattle.engine.proofs.steps.rest.rest.Tie as tie
+
+-- ---- the places: the start, and the op known
+
+abbrev started : tie.After-op-of → tie.Start
+started c = c .before .before .before
+
+looked : (c : tie.After-op-of)
+    → Looked (started c .args .w) (started c .args .pc) (started c .args .call) (c .op-of .result)
+    (c .before .before .is-upcall .result) (c .before .end-tick .result)
+looked c =
+    record {
+      op = c .op-of .ensures;
+      upcall = c .before .before .is-upcall .ensures;
+      tick = c .before .end-tick .ensures;
+      within = started c .pre .1;
+    }
+
+-- ---- the needs
 
 is-upcall-requires : tie.Need-is-upcall-requires
 is-upcall-requires c κs = search needs
@@ -65,40 +83,52 @@ fault-requires : tie.Need-fault-requires
 fault-requires c κs = search needs
 
 returns : tie.Need-returns
-unfolding decode table valueAt labelAt newPairAllowed mayUpcall mayCallGate mayReturn inUpcall
-returns c = rested-row (c .before .before .before .op-of .ensures) (c .before .before .before .before .before .is-upcall .ensures) (c .before .before .match .keys1) refl (c .before .before .before .before .end-tick .ensures) (c .before .raise .ensures) (c .in-time .ensures) (omega arith) (c .before .before .before .before .before .before .pre .1) (λ s l e. refl)
+unfolding decode table valueAt labelAt
+returns c =
+    rested-row (looked (c .before .before .before)) (c .before .before .match .keys1) refl (c .before .raise .ensures)
+    (c .in-time .ensures) (omega arith) (λ s l e. refl)
 
 returns-2 : tie.Need-returns-2
-unfolding decode table valueAt labelAt newPairAllowed mayUpcall mayCallGate mayReturn inUpcall
-returns-2 c = rested-row (c .before .before .before .op-of .ensures) (c .before .before .before .before .before .is-upcall .ensures) (c .before .before .match .keys2) refl (c .before .before .before .before .end-tick .ensures) (c .before .relabel .ensures) (c .in-time2 .ensures) (omega arith) (c .before .before .before .before .before .before .pre .1) (λ s l e. refl)
+unfolding decode table valueAt labelAt
+returns-2 c =
+    rested-row (looked (c .before .before .before)) (c .before .before .match .keys2) refl (c .before .relabel .ensures)
+    (c .in-time2 .ensures) (omega arith) (λ s l e. refl)
 
 returns-3 : tie.Need-returns-3
-unfolding decode table valueAt labelAt newPairAllowed mayUpcall mayCallGate mayReturn inUpcall
-returns-3 c = rested-row (c .before .before .before .op-of .ensures) (c .before .before .before .before .before .is-upcall .ensures) (c .before .before .match .keys3) refl (c .before .before .before .before .end-tick .ensures) (c .before .enter .ensures) (c .in-time3 .ensures) (omega arith) (c .before .before .before .before .before .before .pre .1) (λ s l e. refl)
+unfolding decode table valueAt labelAt newPairAllowed
+returns-3 c =
+    rested-row (looked (c .before .before .before)) (c .before .before .match .keys3) refl (c .before .enter .ensures)
+    (c .in-time3 .ensures) (omega arith) (λ s l e. refl)
 
 returns-4 : tie.Need-returns-4
-unfolding decode table valueAt labelAt newPairAllowed mayUpcall mayCallGate mayReturn inUpcall
-returns-4 c = rested-row (c .before .before .before .op-of .ensures) (c .before .before .before .before .before .is-upcall .ensures) (c .before .before .match .keys4) refl (c .before .before .before .before .end-tick .ensures) (c .before .upcall .ensures) (c .in-time4 .ensures) (omega arith) (c .before .before .before .before .before .before .pre .1) (λ s l e. rw (e, c .before .before .before .before .before .is-upcall .ensures))
+unfolding decode table valueAt labelAt newPairAllowed mayUpcall inUpcall
+returns-4 c =
+    let at = looked (c .before .before .before) in
+    rested-row at (c .before .before .match .keys4) refl (c .before .upcall .ensures)
+    (c .in-time4 .ensures) (omega arith) (λ s l e. rw (e, at .upcall))
 
 returns-5 : tie.Need-returns-5
-unfolding decode table valueAt labelAt newPairAllowed mayUpcall mayCallGate mayReturn inUpcall
-returns-5 c = rested-end (c .before .before .op-of .ensures) (c .before .before .before .before .is-upcall .ensures) (c .before .match .keys5) (c .before .before .before .before .before .pre .1) (c .end-upcall .ensures)
+returns-5 c = rested-end (looked (c .before .before)) (c .before .match .keys5) (c .end-upcall .ensures)
 
 returns-6 : tie.Need-returns-6
-unfolding decode table valueAt labelAt newPairAllowed mayUpcall mayCallGate mayReturn inUpcall
-returns-6 c = rested-row (c .before .before .before .op-of .ensures) (c .before .before .before .before .before .is-upcall .ensures) (c .before .before .match .keys6) refl (c .before .before .before .before .end-tick .ensures) (c .before .gate .ensures) (c .in-time5 .ensures) (omega arith) (c .before .before .before .before .before .before .pre .1) (λ s l e. rw (e))
+unfolding decode table valueAt labelAt mayCallGate
+returns-6 c =
+    rested-row (looked (c .before .before .before)) (c .before .before .match .keys6) refl (c .before .gate .ensures)
+    (c .in-time5 .ensures) (omega arith) (λ s l e. rw e)
 
 returns-7 : tie.Need-returns-7
-unfolding decode table valueAt labelAt newPairAllowed mayUpcall mayCallGate mayReturn inUpcall
-returns-7 c = rested-row (c .before .before .before .op-of .ensures) (c .before .before .before .before .before .is-upcall .ensures) (c .before .before .match .keys7) refl (c .before .before .before .before .end-tick .ensures) (c .before .close-gate .ensures) (c .in-time6 .ensures) (omega arith) (c .before .before .before .before .before .before .pre .1) (λ s l e. rw (e))
+unfolding decode table mayReturn
+returns-7 c =
+    rested-row (looked (c .before .before .before)) (c .before .before .match .keys7) refl (c .before .close-gate .ensures)
+    (c .in-time6 .ensures) (omega arith) (λ s l e. rw e)
 
 returns-8 : tie.Need-returns-8
-unfolding decode table valueAt labelAt newPairAllowed mayUpcall mayCallGate mayReturn inUpcall
-returns-8 c = rested-halt (c .before .before .op-of .ensures) (c .before .before .before .before .is-upcall .ensures) (c .before .match .keys8) (c .halt .ensures)
+returns-8 c = rested-halt (looked (c .before .before)) (c .before .match .keys8) (c .halt .ensures)
 
 returns-9 : tie.Need-returns-9
-unfolding decode table valueAt labelAt newPairAllowed mayUpcall mayCallGate mayReturn inUpcall
-returns-9 c = rested-unknown (c .before .before .op-of .ensures) (c .before .before .before .before .is-upcall .ensures) (c .before .before .before .before .before .pre .0) (c .before .match .rest .0 .0 .0 .0 .0 .0 .0 .1) (c .before .match .rest .0 .0 .0 .0 .0 .0 .1) (c .before .match .rest .0 .0 .0 .0 .0 .1) (c .before .match .rest .0 .0 .0 .0 .1) (c .before .match .rest .0 .0 .0 .1) (c .before .match .rest .0 .0 .1) (c .before .match .rest .0 .1) (c .before .match .rest .1) (c .fault .ensures)
+returns-9 c =
+    let at = c .before .before in
+    rested-unknown (looked at) (started at .pre .0) (c .before .match .rest) (c .fault .ensures)
 
 pub rest-spec : {M : Type 1} → statement M
 rest-spec =

@@ -5,6 +5,10 @@ use Rattle.engine.proofs.Verdicts.{pair-below}
 use Rattle.engine.proofs.steps.rest.upcall.Statement.{statement}
 use Rattle.engine.proofs.steps.rest.upcall.Tie as tie
 
+-- Where the fields of the word are read, before the new pair is tried.
+abbrev read : tie.After-new-pair-allowed → tie.After-d-of
+read c = c .before .before .before .before .before
+
 a-of-requires : tie.Need-a-of-requires
 a-of-requires c κs = search needs
 
@@ -57,10 +61,22 @@ element-copy-out-open-upcall-2 : tie.Need-element-copy-out-open-upcall-2
 element-copy-out-open-upcall-2 c = search needs
 
 open-upcall-requires : tie.Need-open-upcall-requires
-open-upcall-requires c κs = (pair-below _ _ _ _ _ (c .before .before .before .before .new-pair-allowed .ensures), c .before .before .before .before .before .before .before .before .before .before .before .before .before .pre)
+open-upcall-requires c κs =
+    let allowed = c .before .before .before .before in
+    (pair-below _ _ _ _ _ (allowed .new-pair-allowed .ensures), read allowed .before .before .before .before .pre)
 
 returns : tie.Need-returns
-returns c = rw (← c .before .before .before .before .before .before .before .before .before .before .before .before .before .a-of .ensures .0, ← c .before .before .before .before .before .before .before .before .before .before .before .before .b-of .ensures .0, ← c .before .before .before .before .before .before .before .before .before .before .before .c-of .ensures .0, ← c .before .before .before .before .before .before .before .before .before .before .d-of .ensures .0, ← c .before .before .before .before .before .new-pair-allowed .ensures) (c .open-upcall .ensures)
+returns c =
+    let allowed = c .before .before .before .before .before in
+    let fields = read allowed in
+    rw (
+      ← fields .before .before .before .a-of .ensures .0,
+      ← fields .before .before .b-of .ensures .0,
+      ← fields .before .c-of .ensures .0,
+      ← fields .d-of .ensures .0,
+      ← allowed .new-pair-allowed .ensures,
+    )
+    (c .open-upcall .ensures)
 
 pub upcall-spec : {M : Type 1} → statement M
 upcall-spec =
