@@ -3,7 +3,7 @@
 use Prim.Native.Nat.{ℕ, _≤_}
 use mathlib.Core.Path.{_≡_, refl, sym, ap, _∙_}
 use mathlib.Core.Bool.{true, false, _&&_}
-use mathlib.Core.List.{List}
+use mathlib.Core.List.{List, _∷_}
 use borrow.Author.Tests.{leb-true}
 use lib.Dec.{leb}
 use lib.ListN.{length, drop}
@@ -17,34 +17,21 @@ use Rattle.model.specs.declared.format.Line.{Line}
 use Rattle.model.specs.declared.format.Line.the-variants.{M, G, R, W, Malformed}
 use Rattle.model.specs.declared.format.Read.{Read}
 use Rattle.model.specs.declared.judging.Header.{Header}
-use Rattle.model.specs.Record.{Bank, Machine}
+use Rattle.model.specs.Record.{Bank}
 use Rattle.model.specs.WellFormed.{lentWhole}
 use Rattle.model.specs.Text.{readLine, onwards, lines}
-use Rattle.model.specs.Load.{machineOfHeader, headerInRange, headerTests, behindHeader, refuse, accept, tried, judge, judgeHeader, judgeLines, judgeText, fill, cleared, noMachine, load}
+use Rattle.model.specs.Load.{machineOfHeader, headerInRange, headerTests, behindHeader, Verdict, refuse, accept, tried, judge, judgeHeader, judgeLines, judgeText, fill, Loading, settle, load}
 use Rattle.model.proofs.Truth.{and-iff}
-use Rattle.model.proofs.Load.{judge-size}
-use Rattle.machine.specs.Answered.{recordOf}
 use Rattle.loader.specs.declared.Loaded.{Loaded}
-use Rattle.texts.specs.Inner.Storable.{storable}
-use Rattle.loader.specs.Load.{bank, loadingOf, verdictOf}
+use Rattle.loader.specs.Load.{bank, loadingOf}
+use Rattle.loader.specs.Inner.Judging.{IsRefusal, loadLines}
 use Rattle.texts.proofs.Lines.{lines-first}
-use Rattle.texts.proofs.Storable.{accepted-storable}
 
--- ---- a struct that refuses
-
--- What the code's refusal is.
-abbrev IsRefusal : Loaded → Cause → ℕ → Type 0
-IsRefusal r c n = (r .outcome ≡ Refused c) × (r .line ≡ n) × (recordOf (r .machine) ≡ noMachine)
-
--- It is the answer where the text is refused so.
+-- A refusal is the answer where the text is refused so.
 pub refused-loading : (r : Loaded) (c : Cause) (n : ℕ) (text w l : List ℕ) → IsRefusal r c n
     → judgeText text (bank w l) ≡ refuse c n → loadingOf r w l ≡ load text (bank w l)
 unfolding load
 refused-loading r c n text w l h e = rw (h .0, h .1, h .2, e)
-
--- And the verdict of the first pass.
-pub refused-verdict : (r : Loaded) (c : Cause) (n : ℕ) → IsRefusal r c n → verdictOf r ≡ refuse c n
-refused-verdict r c n h = rw (h .0, h .1)
 
 -- ---- text and first line
 
@@ -91,6 +78,12 @@ text-other text m x b g = begun-judged text x b m ∙ first-other (x .line) (lin
 
 -- ---- behind an M line
 
+-- An M line writes nothing to memory.
+settled-behind : (v : Verdict) (a b c d e f : ℕ) (ls : List Line) (m : Bank) → settle v (M a b c d e f ∷ ls) m ≡ settle v ls m
+unfolding fill
+settled-behind (refuse _ _) a b c d e f ls m = refl
+settled-behind (accept _) a b c d e f ls m = refl
+
 -- The first line is an M line with these numbers, and its tests have this outcome.
 pub record Headed (text w l : List ℕ) (x : Read) (h : Header) (o : Outcome) : Type 0 where
   pub begun : Begun text x
@@ -98,69 +91,47 @@ pub record Headed (text w l : List ℕ) (x : Read) (h : Header) (o : Outcome) : 
   pub tests : o ≡ firstRefusal (headerTests h (bank w l))
 
 module _ {text w l : List ℕ} {x : Read} {h : Header} {o : Outcome} (d : Headed text w l x h o) where
-  -- The lines behind it.
-  abbrev behind : List Line
-  behind = lines (drop (x .next) text)
-
   -- The verdict goes by the outcome.
-  header-judged : judgeText text (bank w l) ≡ tried o 1 (judge (machineOfHeader h) behindHeader 2 behind)
+  header-judged : judgeText text (bank w l)
+      ≡ tried o 1 (judge (machineOfHeader h) behindHeader 2 (lines (drop (x .next) text)))
   unfolding judgeHeader
   header-judged =
       begun-judged text x (d .begun) (bank w l)
-      ∙ ap (λ (z : Line). judgeLines (onwards z behind) (bank w l)) (d .line)
-      ∙ ap (λ (z : Outcome). tried z 1 (judge (machineOfHeader h) behindHeader 2 behind)) (sym (d .tests))
+      ∙ ap (λ (z : Line). judgeLines (onwards z (lines (drop (x .next) text))) (bank w l)) (d .line)
+      ∙ ap (λ (z : Outcome). tried z 1 (judge (machineOfHeader h) behindHeader 2 (lines (drop (x .next) text)))) (sym (d .tests))
 
   -- The line is refused: 3, 5 or 6.
   pub header-refused : (c : Cause) → o ≡ Refused c → judgeText text (bank w l) ≡ refuse c 1
   header-refused c e = rw e at header-judged
 
-  module _ (e : o ≡ Done) where
-    -- Its tests pass.
-    pub header-in-range : headerInRange h ≡ true
-    unfolding headerTests
-    header-in-range = all-pass (headerTests h (bank w l)) (sym (d .tests) ∙ e) .0
+  -- Its tests pass.
+  pub header-passed : o ≡ Done → Headed text w l x h Done
+  header-passed e = record { begun = d .begun; line = d .line; tests = sym e ∙ d .tests }
 
-    header-lent : (leb (h .size) (length w) && leb (h .size) (length l)) ≡ true
-    unfolding headerTests lentWhole
-    header-lent = all-pass (headerTests h (bank w l)) (sym (d .tests) ∙ e) .1 .1 .0
+module _ {text w l : List ℕ} {x : Read} {h : Header} (d : Headed text w l x h Done) where
+  -- So its numbers are in their ranges.
+  pub header-in-range : headerInRange h ≡ true
+  unfolding headerTests
+  header-in-range = all-pass (headerTests h (bank w l)) (sym (d .tests)) .0
 
-    -- The verdict is that of the first pass.
-    module _ (r : Machine) (q : r ≡ machineOfHeader h) (j : Loaded) (f : verdictOf j ≡ judge r behindHeader 2 behind) where
-      first-pass : judge (machineOfHeader h) behindHeader 2 behind ≡ verdictOf j
-      first-pass = ap (λ (z : Machine). judge z behindHeader 2 behind) (sym q) ∙ sym f
+  -- And the lent memory has room for the words.
+  lent-whole : (leb (h .size) (length w) && leb (h .size) (length l)) ≡ true
+  unfolding headerTests lentWhole
+  lent-whole = all-pass (headerTests h (bank w l)) (sym (d .tests)) .1 .1 .0
 
-      text-judged : judgeText text (bank w l) ≡ verdictOf j
-      text-judged = (rw e at header-judged) ∙ first-pass
+  pub header-lent : (h .size ≤ length w) × (h .size ≤ length l)
+  header-lent =
+      let b = and-iff (leb (h .size) (length w)) (leb (h .size) (length l)) .0 lent-whole in
+      (leb-true _ _ (b .0), leb-true _ _ (b .1))
 
-      -- A line behind the first is refused.
-      pub line-refused : (c : Cause) → j .outcome ≡ Refused c → judgeText text (bank w l) ≡ refuse c (j .line)
-      line-refused c z = text-judged ∙ rw z
-
-      module _ (z : j .outcome ≡ Done) where
-        -- All lines are accepted.
-        accepts : judge (machineOfHeader h) behindHeader 2 behind ≡ accept (recordOf (j .machine))
-        accepts = first-pass ∙ rw z
-
-        -- What the second pass asks.
-        pub load-lent : (h .size ≤ length w) × (h .size ≤ length l)
-        load-lent =
-            let b = and-iff (leb (h .size) (length w)) (leb (h .size) (length l)) .0 header-lent in
-            (leb-true _ _ (b .0), leb-true _ _ (b .1))
-
-        pub load-storable : storable (h .size) behind ≡ true
-        load-storable = accepted-storable (machineOfHeader h) behindHeader 2 behind (recordOf (j .machine)) accepts
-
-        -- The lines of the text are an M line and those behind it.
-        all-lines : fill (lines text) (cleared (h .size) (bank w l)) ≡ fill behind (cleared (h .size) (bank w l))
-        unfolding fill
-        all-lines =
-            ap (λ (ls : List Line). fill ls (cleared (h .size) (bank w l)))
-            (begun-lines text x (d .begun) ∙ ap (λ (k : Line). onwards k behind) (d .line))
-
-        -- The text is accepted.
-        pub load-accepted : (w′ l′ : List ℕ) → bank w′ l′ ≡ fill behind (cleared (h .size) (bank w l))
-            → loadingOf (record { outcome = j .outcome; line = 0; machine = j .machine }) w′ l′ ≡ load text (bank w l)
-        unfolding load
-        load-accepted w′ l′ g =
-            let size = judge-size (machineOfHeader h) behindHeader 2 behind (recordOf (j .machine)) accepts in
-            rw (z, g) (rw (text-judged, z, size, all-lines) refl)
+  -- The answer on the lines behind it is that on the text.
+  pub header-loaded : (a : Loading) → a ≡ loadLines h (lines (drop (x .next) text)) (bank w l) → a ≡ load text (bank w l)
+  unfolding load
+  header-loaded a e =
+      let behind = lines (drop (x .next) text) in
+      let verdict = judge (machineOfHeader h) behindHeader 2 behind in
+      e
+      ∙ sym (settled-behind verdict (h .size) (h .errorpc) (h .pc) (h .p) (h .t) (h .limit) behind (bank w l))
+      ∙ ap (λ (k : Line). settle verdict (onwards k behind) (bank w l)) (sym (d .line))
+      ∙ ap (λ (ls : List Line). settle verdict ls (bank w l)) (sym (begun-lines text x (d .begun)))
+      ∙ ap (λ (v : Verdict). settle v (lines text) (bank w l)) (sym (header-judged d))

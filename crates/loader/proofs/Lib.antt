@@ -1,4 +1,5 @@
-pub mod Judging
-pub mod Passes
+pub mod Reading
+pub mod Copying
+pub mod Behind
 pub mod Answer
 pub mod Faithful

@@ -1,1 +1,3 @@
 pub mod Load
+-- What only the contracts of inner functions cite.
+pub mod Inner

@@ -1,5 +1,5 @@
-// Loading: a text becomes the machine record and the memory that it describes, or is refused. A first pass judges all
-// lines, and only when the last one is accepted does a second pass over the same lines write the lent memory.
+// Loading: a text becomes the machine record and the memory that it describes, or is refused. Its lines are read once:
+// the words of accepted lines are kept aside, and copied to the lent memory only when the last line is accepted.
 use causes::Cause;
 use causes::Outcome;
 use labels::Label;
@@ -17,13 +17,14 @@ ghost use mathlib.Core.Path.{_≡_};
 ghost use mathlib.Core.Bool.{true};
 ghost use mathlib.Core.List.{_++_};
 ghost use Prim.Native.Nat.{_≤_};
-ghost use lib.ListN.{length, drop, replicate};
-ghost use Rattle.labels.specs.Label.{lowest};
+ghost use lib.ListN.{length, take, drop};
+ghost use Rattle.model.specs.Numbers.{longestText};
 ghost use Rattle.model.specs.Text.{lines};
-ghost use Rattle.model.specs.Load.{machineOfHeader, withGate, withRegister, withLine, headerInRange, gateInRange, entryInRange, behindHeader, judge, withWord, fill, cleared, noMachine, load};
+ghost use Rattle.model.specs.Load.{machineOfHeader, withGate, withRegister, withLine, headerInRange, gateInRange, entryInRange, withWord, load};
 ghost use Rattle.machine.specs.Answered.{recordOf};
-ghost use Rattle.texts.specs.Inner.Storable.{isStorable, storable};
-ghost use Rattle.loader.specs.Load.{bank, loadingOf, verdictOf, takes};
+ghost use Rattle.texts.specs.Inner.Storable.{isStorable};
+ghost use Rattle.loader.specs.Load.{bank, loadingOf};
+ghost use Rattle.loader.specs.Inner.Judging.{IsRefusal, takes, LinesJudged, loadLines};
 
 // The outcome, the refusal's line or 0, and the record: beside a refusal stands one of size 0.
 pub struct Loaded {
@@ -35,9 +36,12 @@ pub struct Loaded {
 // The most bytes of a text.
 const LONGEST_TEXT: usize = 65535;
 
+// The most words that a machine can have.
+const MOST_WORDS: usize = 2048;
+
 // A refusal.
 fn refused(cause: Cause, line: u32) -> Loaded
-    ensures { λ r. ⌜ (r .outcome ≡ Outcome.Refused cause) × (r .line ≡ line) × (recordOf (r .machine) ≡ noMachine) ⌝ }
+    ensures { λ r. ⌜ IsRefusal r cause line ⌝ }
 {
     Loaded {
         outcome: Outcome::Refused(cause),
@@ -108,58 +112,6 @@ fn with_line(machine: Machine, line: Line) -> Machine
     }
 }
 
-// The first pass: the lines from `start` on, behind the M line of this machine.
-fn judge_lines(text: &[u8], start: usize, header: Machine) -> Loaded
-    requires { ⌜ length (now text) ≤ 65535 ⌝ }
-    ensures { λ r. ⌜ verdictOf r ≡ judge (recordOf header) behindHeader 2 (lines (drop start (now (text .entry)))) ⌝ }
-{
-    let mut machine = header;
-    let mut last = BEHIND_HEADER;
-    let mut at = start;
-    let mut number: u32 = 2;
-    while at < text.len() {
-        let read = read_line(&text[at..]);
-        let line = read.line;
-        let tried = line_verdict(machine.fixed.size, machine.fixed.count, last, line);
-        if let Outcome::Refused(cause) = tried {
-            return refused(cause, number);
-        }
-        last = last_of(line);
-        machine = with_line(machine, line);
-        at += read.next;
-        number += 1;
-    }
-    Loaded {
-        outcome: Outcome::Done,
-        line: 0,
-        machine: machine,
-    }
-}
-
-// The words below the size set to 0.
-fn clear_words(size: usize, words: &mut [u32])
-    requires { ⌜ size ≤ length (now words) ⌝ }
-    ensures { λ r. ⌜ now (words .exit) ≡ replicate size 0 ++ drop size (now (words .entry)) ⌝ }
-{
-    let mut i: usize = 0;
-    while i < size {
-        words[i] = 0;
-        i += 1;
-    }
-}
-
-// Their labels set to the lowest.
-fn clear_labels(size: usize, labels: &mut [u8])
-    requires { ⌜ size ≤ length (now labels) ⌝ }
-    ensures { λ r. ⌜ now (labels .exit) ≡ replicate size lowest ++ drop size (now (labels .entry)) ⌝ }
-{
-    let mut i: usize = 0;
-    while i < size {
-        labels[i] = Label::LOWEST.0;
-        i += 1;
-    }
-}
-
 // The word of a W line.
 fn store_word(line: Line, words: &mut [u32], labels: &mut [u8])
     requires { ⌜ isStorable (length (now words)) line ≡ true ⌝ }
@@ -174,20 +126,96 @@ fn store_word(line: Line, words: &mut [u32], labels: &mut [u8])
     labels[at] = label as u8;
 }
 
-// The second pass: the memory below the size blank, then the words of the W lines from `start` on.
-fn write_memory(text: &[u8], start: usize, size: usize, words: &mut [u32], labels: &mut [u8])
-    requires { ⌜ (size ≤ length (now words)) × (size ≤ length (now labels)) ⌝ }
-    requires { ⌜ storable size (lines (drop start (now text))) ≡ true ⌝ }
-    ensures { λ r. ⌜ bank (now (words .exit)) (now (labels .exit)) ≡ fill (lines (drop start (now (text .entry)))) (cleared size (bank (now (words .entry)) (now (labels .entry)))) ⌝ }
+// The lines from `start` on, behind the M line of this machine: each is judged, and its word kept where it is accepted.
+// Beside a refusal nothing is said of what is kept.
+fn judge_lines(
+    text: &[u8],
+    start: usize,
+    header: Machine,
+    words: &mut [u32],
+    labels: &mut [u8],
+) -> Loaded
+    requires { ⌜ length (now text) ≤ longestText ⌝ }
+    requires { ⌜ (header .fixed .size ≤ length (now words)) × (header .fixed .size ≤ length (now labels)) ⌝ }
+    ensures { λ r. ⌜ LinesJudged (recordOf header) (lines (drop start (now (text .entry)))) (bank (now (words .entry)) (now (labels .entry))) r (bank (now (words .exit)) (now (labels .exit))) ⌝ }
 {
-    clear_words(size, words);
-    clear_labels(size, labels);
+    let mut machine = header;
+    let mut last = BEHIND_HEADER;
     let mut at = start;
+    let mut number: u32 = 2;
     while at < text.len() {
         let read = read_line(&text[at..]);
         let line = read.line;
+        let tried = line_verdict(machine.fixed.size, machine.fixed.count, last, line);
+        if let Outcome::Refused(cause) = tried {
+            return refused(cause, number);
+        }
+        last = last_of(line);
+        machine = with_line(machine, line);
         store_word(line, words, labels);
         at += read.next;
+        number += 1;
+    }
+    Loaded {
+        outcome: Outcome::Done,
+        line: 0,
+        machine: machine,
+    }
+}
+
+// The kept words below the size copied to memory.
+fn copy_words(size: usize, kept: &[u32], words: &mut [u32])
+    requires { ⌜ (size ≤ length (now kept)) × (size ≤ length (now words)) ⌝ }
+    ensures { λ r. ⌜ now (words .exit) ≡ take size (now (kept .entry)) ++ drop size (now (words .entry)) ⌝ }
+{
+    let mut i: usize = 0;
+    while i < size {
+        words[i] = kept[i];
+        i += 1;
+    }
+}
+
+// Their labels.
+fn copy_labels(size: usize, kept: &[u8], labels: &mut [u8])
+    requires { ⌜ (size ≤ length (now kept)) × (size ≤ length (now labels)) ⌝ }
+    ensures { λ r. ⌜ now (labels .exit) ≡ take size (now (kept .entry)) ++ drop size (now (labels .entry)) ⌝ }
+{
+    let mut i: usize = 0;
+    while i < size {
+        labels[i] = kept[i];
+        i += 1;
+    }
+}
+
+// The lines from `start` on, behind this M line, loaded: only where all of them are accepted is the lent memory written.
+fn load_lines(
+    text: &[u8],
+    start: usize,
+    header: Header,
+    words: &mut [u32],
+    labels: &mut [u8],
+) -> Loaded
+    requires { ⌜ length (now text) ≤ longestText ⌝ }
+    requires { ⌜ headerInRange header ≡ true ⌝ }
+    requires { ⌜ (header .size ≤ length (now words)) × (header .size ≤ length (now labels)) ⌝ }
+    ensures { λ r. ⌜ loadingOf r (now (words .exit)) (now (labels .exit)) ≡ loadLines header (lines (drop start (now (text .entry)))) (bank (now (words .entry)) (now (labels .entry))) ⌝ }
+{
+    let mut kept_words = [0u32; MOST_WORDS];
+    let mut kept_labels = [Label::LOWEST.0; MOST_WORDS];
+    let machine = machine_of(header);
+    let judged = judge_lines(text, start, machine, &mut kept_words, &mut kept_labels);
+    let rest = judged.outcome;
+    if let Outcome::Refused(cause) = rest {
+        return refused(cause, judged.line);
+    }
+    let size = header.size as usize;
+    copy_words(size, &kept_words, words);
+    copy_labels(size, &kept_labels, labels);
+    let loaded = judged.machine;
+    Loaded {
+        outcome: rest,
+        line: 0,
+        machine: loaded,
     }
 }
 
@@ -216,17 +244,5 @@ pub fn load(text: &[u8], words: &mut [u32], labels: &mut [u8]) -> Loaded
     if let Outcome::Refused(cause) = tried {
         return refused(cause, 1);
     }
-    let start = read.next;
-    let judged = judge_lines(text, start, machine_of(header));
-    let rest = judged.outcome;
-    if let Outcome::Refused(cause) = rest {
-        return refused(cause, judged.line);
-    }
-    write_memory(text, start, size as usize, words, labels);
-    let machine = judged.machine;
-    Loaded {
-        outcome: rest,
-        line: 0,
-        machine: machine,
-    }
+    load_lines(text, read.next, header, words, labels)
 }

@@ -4,6 +4,7 @@ pub mod Text
 pub mod Lines
 pub mod Ranges
 pub mod Storable
+pub mod Kept
 pub mod Decimal
 pub mod Fields
 pub mod ReadBack

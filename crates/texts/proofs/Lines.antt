@@ -2,7 +2,6 @@
 -- Assumes nothing.
 use Prim.Native.Nat.{ℕ, zero, suc, _≤_, _<_}
 use mathlib.Core.Path.{_≡_, refl, sym, ap, _∙_}
-use mathlib.Core.Bool.{true}
 use mathlib.Core.List.{List, [], _∷_}
 use native.Mathlib.Nat.{le-refl}
 use native.Mathlib.Omega.{arith}
@@ -13,10 +12,8 @@ use Rattle.model.specs.declared.format.Line.the-variants.{M, G, R, W, Malformed
 use Rattle.model.specs.declared.judging.Last.{Last}
 use Rattle.model.specs.Record.{Bank, Machine}
 use Rattle.model.specs.Text.{readLine, onwards, linesIn, lines}
-use Rattle.model.specs.Load.{entryInRange, lineTests, judge, withWord, fill}
-use Rattle.model.proofs.Truth.{and-iff, clash}
+use Rattle.model.specs.Load.{lineTests, judge, withWord, fill}
 use Rattle.texts.proofs.Text.{sized}
-use Rattle.texts.specs.Inner.Storable.{isStorable, storable}
 
 -- ---- the first line and the lines of the rest
 
@@ -87,34 +84,6 @@ judge-first r last n xs h =
     ∙ judge-onwards r last n (readLine xs .line) (lines (drop (readLine xs .next) xs))
 
 -- ---- written
-
--- The first line, where all lines may be written.
-pub record First (size : ℕ) (l : Line) (ls : List Line) : Type 0 where
-  pub good : l ≡ Malformed → ⊥
-  pub this : isStorable size l ≡ true
-  pub rest : storable size ls ≡ true
-
--- What may be written isn't malformed.
-storable-good : (size : ℕ) (l : Line) → isStorable size l ≡ true → l ≡ Malformed → ⊥
-storable-good size l h m = clash (rw m at h) refl
-
--- The same of a line and the lines behind it.
-storable-onwards : (size : ℕ) (l : Line) (ls : List Line) → storable size (onwards l ls) ≡ true → First size l ls
-unfolding storable
-storable-onwards size (M a b c d e f) ls h = record { good = storable-good size _ refl; this = refl; rest = h }
-storable-onwards size (G a b c) ls h = record { good = storable-good size _ refl; this = refl; rest = h }
-storable-onwards size (R a b c) ls h = record { good = storable-good size _ refl; this = refl; rest = h }
-storable-onwards size (W k l v) ls h =
-    let both = and-iff (entryInRange size k l v) (storable size ls) .0 h in
-    record { good = storable-good size (W k l v) (both .0); this = both .0; rest = both .1 }
-storable-onwards size Malformed ls h = clash h refl
-
--- Where all lines of a text may be written, so may its first, and the lines of the rest.
-pub storable-first : (size : ℕ) (xs : List ℕ) → 0 < length xs → storable size (lines xs) ≡ true
-    → First size (readLine xs .line) (lines (drop (readLine xs .next) xs))
-storable-first size xs h e =
-    storable-onwards size (readLine xs .line) (lines (drop (readLine xs .next) xs))
-    (ap (storable size) (sym (lines-first xs h)) ∙ e)
 
 -- A line is written, then those behind it.
 fill-onwards : (l : Line) (ls : List Line) (m : Bank) → (l ≡ Malformed → ⊥) → fill (onwards l ls) m ≡ fill ls (withWord m l)

@@ -19,7 +19,7 @@ use Rattle.texts.specs.Inner.Storable.{isStorable, storable}
 
 module _ (size count : ℕ) (last : Last) where
   -- Its word may be written.
-  line-storable : (l : Line) → AllPass (lineTests size count last l) → isStorable size l ≡ true
+  pub line-storable : (l : Line) → AllPass (lineTests size count last l) → isStorable size l ≡ true
   unfolding lineTests
   line-storable (M a b c d e f) h = refl
   line-storable (G pc p t) h = refl

@@ -4,10 +4,12 @@ use mathlib.Core.Logic.{⊎-elim}
 use mathlib.Core.Path.{refl}
 use native.Mathlib.Omega.{arith}
 use borrow.Author.Needs.{needs}
+use Rattle.causes.specs.declared.Outcome.{Outcome}
+use Rattle.causes.specs.declared.Outcome.the-variants.{Done}
 use Rattle.model.specs.declared.judging.Header.{Header}
 use Rattle.verdicts.proofs.Negated.{fails, passes}
 use Rattle.loader.specs.Load.{bank}
-use Rattle.loader.proofs.Answer.{refused-loading, text-length, not-long, Begun, text-other, Headed, header-refused, header-in-range, line-refused, load-lent, load-storable, load-accepted}
+use Rattle.loader.proofs.Answer.{refused-loading, text-length, not-long, Begun, text-other, Headed, header-refused, header-passed, header-in-range, header-lent, header-loaded}
 use Rattle.loader.proofs.load.Statement.{statement}
 use Rattle.loader.proofs.load.Tie as tie
 
@@ -21,8 +23,12 @@ returns c =
 read-line-requires : tie.Need-read-line-requires
 read-line-requires c κs = search needs
 
+-- The call, seen from where the first line was read.
+abbrev start : tie.After-read-line → tie.Start
+start c = c .before .before .before .before .before
+
 -- The first line was read.
-begun : (c : tie.After-read-line) → Begun (c .before .before .before .before .before .args .text .now) (c .read-line .result)
+begun : (c : tie.After-read-line) → Begun (start c .args .text .now) (c .read-line .result)
 begun c = record { whole = passes _ _ refl (c .before .if1 .left); reads = c .read-line .ensures }
 
 enum-known-first : tie.Need-enum-known-first
@@ -42,7 +48,7 @@ returns-2 c =
 header-verdict-requires : tie.Need-header-verdict-requires
 header-verdict-requires c κs = search needs
 
--- It is an M line with these numbers.
+-- The numbers of an M line.
 abbrev header-of : tie.After-first → Header
 header-of c =
     let numbers = c .first .given .0 in
@@ -55,16 +61,23 @@ header-of c =
       limit = numbers .1 .1 .1 .1 .1 .0;
     }
 
--- Its tests have an outcome.
-headed : (c : tie.After-header-verdict)
-    → Headed (c .before .before .before .before .before .before .before .before .before .args .text .now) (c .before .before .before .before .before .before .before .before .before .args .words .now) (c .before .before .before .before .before .before .before .before .before .args .labels .now)
-    (c .before .before .before .before .read-line .result) (header-of (c .before .before)) (c .header-verdict .result)
+-- The first line, seen from where it was tried.
+abbrev read : tie.After-header-verdict → tie.After-read-line
+read c = c .before .before .before .before
+
+-- It is an M line whose tests have this outcome.
+abbrev Head : tie.After-header-verdict → Outcome → Type 0
+Head c =
+    Headed (start (read c) .args .text .now) (start (read c) .args .words .now) (start (read c) .args .labels .now)
+    (read c .read-line .result) (header-of (c .before .before))
+
+headed : (c : tie.After-header-verdict) → Head c (c .header-verdict .result)
 headed c =
-    let start = c .before .before .before .before .before .before .before .before .before in
+    let lent = start (read c) .args in
     record {
-      begun = begun (c .before .before .before .before);
+      begun = begun (read c);
       line = c .before .before .first .given .1;
-      tests = c .header-verdict .ensures (bank (start .args .words .now) (start .args .labels .now)) refl refl;
+      tests = c .header-verdict .ensures (bank (lent .words .now) (lent .labels .now)) refl refl;
     }
 
 enum-known-tried : tie.Need-enum-known-tried
@@ -80,40 +93,13 @@ returns-3 c =
 enum-told : tie.Need-enum-told
 enum-told c = search needs
 
-machine-of-requires : tie.Need-machine-of-requires
-machine-of-requires c κs = header-in-range (headed (c .before .before)) (c .enum-told .given .1)
+-- Its tests pass.
+passed : (c : tie.After-enum-told) → Head (c .before .before) Done
+passed c = header-passed (headed (c .before .before)) (c .enum-told .given .1)
 
-judge-lines-requires : tie.Need-judge-lines-requires
-judge-lines-requires c κs = not-long (begun (c .before .before .before .before .before .before .before))
-
-enum-known-rest : tie.Need-enum-known-rest
-enum-known-rest c = search needs
-
-refused-requires-4 : tie.Need-refused-requires-4
-refused-requires-4 c κs = search needs
-
-returns-4 : tie.Need-returns-4
-returns-4 c =
-    let judged = c .before .before .before .before in
-    let passed = judged .before .before in
-    refused-loading _ _ _ _ _ _ (c .refused4 .ensures)
-    (line-refused (headed (passed .before .before)) (passed .enum-told .given .1) _ (judged .before .machine-of .ensures) _
-    (judged .judge-lines .ensures) _ (c .before .before .rest .given .1))
-
-enum-told-2 : tie.Need-enum-told-2
-enum-told-2 c = search needs
-
-write-memory-requires : tie.Need-write-memory-requires
-write-memory-requires c κs =
-    let accepted = c .before .before in
-    let judged = accepted .before .before in
-    let passed = judged .before .before in
-    let lent =
-    load-lent (headed (passed .before .before)) (passed .enum-told .given .1) _ (judged .before .machine-of .ensures) _
-    (judged .judge-lines .ensures) (accepted .enum-told2 .given .1) in
-    let written =
-    load-storable (headed (passed .before .before)) (passed .enum-told .given .1) _ (judged .before .machine-of .ensures) _
-    (judged .judge-lines .ensures) (accepted .enum-told2 .given .1) in (lent, written)
+load-lines-requires : tie.Need-load-lines-requires
+load-lines-requires c κs =
+    let header = passed (c .before .before) in (not-long (header .begun), (header-in-range header, header-lent header))
 
 same-length : tie.Need-same-length
 same-length c = search needs
@@ -121,13 +107,10 @@ same-length c = search needs
 same-length-2 : tie.Need-same-length-2
 same-length-2 c = search needs
 
-returns-5 : tie.Need-returns-5
-returns-5 c =
-    let accepted = c .before .before .before .before .before .before .before .before in
-    let judged = accepted .before .before in
-    let passed = judged .before .before in
-    load-accepted (headed (passed .before .before)) (passed .enum-told .given .1) _ (judged .before .machine-of .ensures) _
-    (judged .judge-lines .ensures) (accepted .enum-told2 .given .1) _ _ (c .before .before .before .before .before .write-memory .ensures)
+returns-4 : tie.Need-returns-4
+returns-4 c =
+    let loaded = c .before .before .before .before in
+    header-loaded (passed (loaded .before .before .before)) _ (loaded .load-lines .ensures)
 
 pub load-spec : {M : Type 1} → statement M
 load-spec =
@@ -144,13 +127,7 @@ load-spec =
     refused-requires-3
     returns-3
     enum-told
-    machine-of-requires
-    judge-lines-requires
-    enum-known-rest
-    refused-requires-4
-    returns-4
-    enum-told-2
-    write-memory-requires
+    load-lines-requires
     same-length
     same-length-2
-    returns-5)
+    returns-4)
