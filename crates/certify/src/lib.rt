@@ -8,6 +8,7 @@ use engine::steps::stride;
 use loader::load;
 use machine::Machine;
 use model::Control;
+use model::numbers;
 use release::has_time;
 use release::relabelling;
 use release::releases;
@@ -57,7 +58,7 @@ const V: u8 = b'V';
 const X: u8 = b'X';
 
 // The most words that a machine can have.
-const MOST_WORDS: usize = 2048;
+const MOST_WORDS: usize = numbers::MOST_WORDS as usize;
 
 // More bytes than either line has.
 pub const OUTPUT: usize = 128;

@@ -6,8 +6,10 @@ use engine::word::a_of;
 use engine::word::b_of;
 use engine::word::index;
 use engine::word::op_of;
+use labels::LABEL_COUNT;
 use labels::Label;
 use model::Control;
+use model::numbers::REGISTER_COUNT;
 ghost use Prim.Native.Nat.{_≤_};
 ghost use mathlib.Core.Path.{_≡_};
 ghost use lib.ListN.{length};
@@ -17,9 +19,6 @@ ghost use Rattle.certify.specs.Inner.Release.{relabellingAt, triesWith, 
 const RELABEL: u32 = 16;
 
 const TICKS: u32 = 2;
-
-// Every number below this one is a label.
-const LABELS: u32 = 256;
 
 // What the fetch gives: a word that relabels, or anything else.
 pub(in crate) enum Found {
@@ -49,7 +48,7 @@ pub(in crate) fn relabelling(size: u32, pc: u32, p: u8, words: &[u32], marks: &[
 fn tries_release(label: u8, p: u8, old: u8, source: u8, value: u32) -> bool
     ensures { λ r. ⌜ r ≡ triesWith label p old source value ⌝ }
 {
-    if value < LABELS {
+    if value < LABEL_COUNT {
         let new = value as u8;
         return is_within(label, p)
             & !is_within(label, old)
@@ -66,8 +65,8 @@ pub(in crate) fn releases(
     label: u8,
     p: u8,
     found: Found,
-    values: &[u32; 16],
-    labels: &[u8; 16],
+    values: &[u32; REGISTER_COUNT],
+    labels: &[u8; REGISTER_COUNT],
 ) -> bool
     ensures { λ r. ⌜ r ≡ releasesWith label p found (now (values .entry)) (now (labels .entry)) ⌝ }
 {

@@ -4,14 +4,12 @@
 use certify::OUTPUT;
 use certify::certify_alone;
 use intake::read_whole;
+use labels::LABEL_COUNT;
 use libc::STDERR_FILENO;
 use libc::STDIN_FILENO;
 use libc::STDOUT_FILENO;
 use model::format::Number;
 use reader::read_number;
-
-// Every number below this one is a label.
-const LABELS: u64 = 256;
 
 // The argument's word: a label, or none.
 enum Named {
@@ -33,7 +31,7 @@ fn label_of(word: &[u8]) -> Named {
     if next <= word.len() {
         return Named::Nothing;
     }
-    if value < LABELS {
+    if value < LABEL_COUNT as u64 {
         return Named::Label(value as u8);
     }
     Named::Nothing

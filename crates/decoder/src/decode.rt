@@ -8,14 +8,12 @@ use model::Control;
 use model::Fixed;
 use model::Pair;
 use model::numbers::REGISTER_COUNT;
+use model::numbers::VALUE_COUNT;
 ghost use mathlib.Core.Path.{_≡_};
 ghost use Prim.Native.Nat.{_<_};
 ghost use Rattle.encoder.specs.Places.{span};
 ghost use Rattle.machine.specs.Answered.{recordOf};
 ghost use Rattle.decoder.specs.Held.{wordAt, low32, low8, pairFrom, callFrom, callIn, gateIn, fixedIn, controlIn, registersIn, recordIn};
-
-// Values are below this number: 2^32.
-const VALUE_COUNT: u64 = 4294967296;
 
 // Bytes are below this number.
 const BYTE_COUNT: u64 = 256;

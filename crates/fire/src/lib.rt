@@ -2,6 +2,7 @@
 // is refused gets the line `X,number,line` instead.
 use causes::Outcome;
 use loader::load;
+use model::numbers;
 use printer::print;
 use writer::write_line;
 ghost use Prim.Native.Nat.{_≤_};
@@ -17,7 +18,7 @@ ghost use Rattle.fire.specs.Inner.Refusing.{refusing};
 const X: u8 = b'X';
 
 // The most words that a machine can have.
-pub const MOST_WORDS: usize = 2048;
+pub const MOST_WORDS: usize = numbers::MOST_WORDS as usize;
 
 // More bytes than any listing has.
 pub const OUTPUT: usize = 65536;

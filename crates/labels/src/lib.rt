@@ -10,6 +10,9 @@ ghost use Rattle.labels.specs.Label.{flows, join, meet, reflection, unco
 
 pub struct Label(pub u8);
 
+// Every number below this one is a label.
+pub const LABEL_COUNT: u32 = 256;
+
 // The bits of a label's integrity.
 const INTEGRITY: u8 = 240;
 // The bits of its confidentiality.

@@ -17,19 +17,19 @@ use Rattle.model.specs.declared.format.Line.{Line}
 use Rattle.model.specs.declared.format.Line.the-variants.{M, G, R, W, Malformed}
 use Rattle.model.specs.declared.format.Read.{Read}
 use Rattle.model.specs.declared.judging.Header.{Header}
-use Rattle.model.specs.Record.{Bank}
+use Rattle.model.specs.Record.{Bank, lent}
 use Rattle.model.specs.WellFormed.{lentWhole}
 use Rattle.model.specs.Text.{readLine, onwards, lines}
 use Rattle.model.specs.Load.{machineOfHeader, headerInRange, headerTests, behindHeader, Verdict, refuse, accept, tried, judge, judgeHeader, judgeLines, judgeText, fill, Loading, settle, load}
 use Rattle.model.proofs.Truth.{and-iff}
 use Rattle.loader.specs.declared.Loaded.{Loaded}
-use Rattle.loader.specs.Load.{bank, loadingOf}
+use Rattle.loader.specs.Load.{loadingOf}
 use Rattle.loader.specs.Inner.Judging.{IsRefusal, loadLines}
 use Rattle.texts.proofs.Lines.{lines-first}
 
 -- A refusal is the answer where the text is refused so.
 pub refused-loading : (r : Loaded) (c : Cause) (n : ℕ) (text w l : List ℕ) → IsRefusal r c n
-    → judgeText text (bank w l) ≡ refuse c n → loadingOf r w l ≡ load text (bank w l)
+    → judgeText text (lent w l) ≡ refuse c n → loadingOf r w l ≡ load text (lent w l)
 unfolding load
 refused-loading r c n text w l h e = rw (h .0, h .1, h .2, e)
 
@@ -88,20 +88,20 @@ settled-behind (accept _) a b c d e f ls m = refl
 pub record Headed (text w l : List ℕ) (x : Read) (h : Header) (o : Outcome) : Type 0 where
   pub begun : Begun text x
   pub line : x .line ≡ M (h .size) (h .errorpc) (h .pc) (h .p) (h .t) (h .limit)
-  pub tests : o ≡ firstRefusal (headerTests h (bank w l))
+  pub tests : o ≡ firstRefusal (headerTests h (lent w l))
 
 module _ {text w l : List ℕ} {x : Read} {h : Header} {o : Outcome} (d : Headed text w l x h o) where
   -- The verdict goes by the outcome.
-  header-judged : judgeText text (bank w l)
+  header-judged : judgeText text (lent w l)
       ≡ tried o 1 (judge (machineOfHeader h) behindHeader 2 (lines (drop (x .next) text)))
   unfolding judgeHeader
   header-judged =
-      begun-judged text x (d .begun) (bank w l)
-      ∙ ap (λ (z : Line). judgeLines (onwards z (lines (drop (x .next) text))) (bank w l)) (d .line)
+      begun-judged text x (d .begun) (lent w l)
+      ∙ ap (λ (z : Line). judgeLines (onwards z (lines (drop (x .next) text))) (lent w l)) (d .line)
       ∙ ap (λ (z : Outcome). tried z 1 (judge (machineOfHeader h) behindHeader 2 (lines (drop (x .next) text)))) (sym (d .tests))
 
   -- The line is refused: 3, 5 or 6.
-  pub header-refused : (c : Cause) → o ≡ Refused c → judgeText text (bank w l) ≡ refuse c 1
+  pub header-refused : (c : Cause) → o ≡ Refused c → judgeText text (lent w l) ≡ refuse c 1
   header-refused c e = rw e at header-judged
 
   -- Its tests pass.
@@ -112,12 +112,12 @@ module _ {text w l : List ℕ} {x : Read} {h : Header} (d : Headed text w l x h 
   -- So its numbers are in their ranges.
   pub header-in-range : headerInRange h ≡ true
   unfolding headerTests
-  header-in-range = all-pass (headerTests h (bank w l)) (sym (d .tests)) .0
+  header-in-range = all-pass (headerTests h (lent w l)) (sym (d .tests)) .0
 
   -- And the lent memory has room for the words.
   lent-whole : (leb (h .size) (length w) && leb (h .size) (length l)) ≡ true
   unfolding headerTests lentWhole
-  lent-whole = all-pass (headerTests h (bank w l)) (sym (d .tests)) .1 .1 .0
+  lent-whole = all-pass (headerTests h (lent w l)) (sym (d .tests)) .1 .1 .0
 
   pub header-lent : (h .size ≤ length w) × (h .size ≤ length l)
   header-lent =
@@ -125,13 +125,13 @@ module _ {text w l : List ℕ} {x : Read} {h : Header} (d : Headed text w l x h 
       (leb-true _ _ (b .0), leb-true _ _ (b .1))
 
   -- The answer on the lines behind it is that on the text.
-  pub header-loaded : (a : Loading) → a ≡ loadLines h (lines (drop (x .next) text)) (bank w l) → a ≡ load text (bank w l)
+  pub header-loaded : (a : Loading) → a ≡ loadLines h (lines (drop (x .next) text)) (lent w l) → a ≡ load text (lent w l)
   unfolding load
   header-loaded a e =
       let behind = lines (drop (x .next) text) in
       let verdict = judge (machineOfHeader h) behindHeader 2 behind in
       e
-      ∙ sym (settled-behind verdict (h .size) (h .errorpc) (h .pc) (h .p) (h .t) (h .limit) behind (bank w l))
-      ∙ ap (λ (k : Line). settle verdict (onwards k behind) (bank w l)) (sym (d .line))
-      ∙ ap (λ (ls : List Line). settle verdict ls (bank w l)) (sym (begun-lines text x (d .begun)))
-      ∙ ap (λ (v : Verdict). settle v (lines text) (bank w l)) (sym (header-judged d))
+      ∙ sym (settled-behind verdict (h .size) (h .errorpc) (h .pc) (h .p) (h .t) (h .limit) behind (lent w l))
+      ∙ ap (λ (k : Line). settle verdict (onwards k behind) (lent w l)) (sym (d .line))
+      ∙ ap (λ (ls : List Line). settle verdict ls (lent w l)) (sym (begun-lines text x (d .begun)))
+      ∙ ap (λ (v : Verdict). settle v (lines text) (lent w l)) (sym (header-judged d))

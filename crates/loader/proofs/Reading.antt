@@ -16,7 +16,7 @@ use Rattle.model.specs.declared.format.Line.{Line}
 use Rattle.model.specs.declared.format.Line.the-variants.{M, G, R, W, Malformed}
 use Rattle.model.specs.declared.format.Read.{Read}
 use Rattle.model.specs.declared.judging.Last.{Last}
-use Rattle.model.specs.Record.{Machine}
+use Rattle.model.specs.Record.{Machine, lent}
 use Rattle.model.specs.Text.{readLine, linesIn, lines}
 use Rattle.model.specs.Load.{lineTests, behindHeader, lastOf, withLine, refuse, accept, tried, judge, withWord, fill}
 use Rattle.model.proofs.Load.{line-size}
@@ -25,7 +25,6 @@ use Rattle.texts.proofs.Text.{part, sized}
 use Rattle.texts.proofs.Lines.{judge-first, fill-first}
 use Rattle.texts.proofs.Storable.{line-storable, line-good}
 use Rattle.texts.proofs.Kept.{storable-wider}
-use Rattle.loader.specs.Load.{bank}
 use Rattle.loader.specs.Inner.Judging.{takes}
 
 -- ---- a line that was read
@@ -71,7 +70,7 @@ pub record Judged (text : List ℕ) (start : ℕ) (r₀ r : Machine) (last : Las
 pub record Kept (text : List ℕ) (start : ℕ) (w₀ l₀ w l : List ℕ) (at : ℕ) : Type 0 where
   pub words : length w ≡ length w₀
   pub labels : length l ≡ length l₀
-  pub same : fill (lines (drop at text)) (bank w l) ≡ fill (lines (drop start text)) (bank w₀ l₀)
+  pub same : fill (lines (drop at text)) (lent w l) ≡ fill (lines (drop start text)) (lent w₀ l₀)
 
 -- The verdict on the lines goes by the outcome of the first of them.
 tried-here : {text : List ℕ} {start : ℕ} {r₀ r : Machine} {last : Last} {at n : ℕ} {x : Read} {o : Outcome} → At text at x
@@ -137,7 +136,7 @@ module _ {text : List ℕ} {at : ℕ} {r : Machine} {last : Last} {x : Read} (a 
 
   -- With its word kept, those of the lines behind it are to be kept.
   pub kept-more : {start : ℕ} {w₀ l₀ w l : List ℕ} (w′ l′ : List ℕ) → Kept text start w₀ l₀ w l at
-      → bank w′ l′ ≡ withWord (bank w l) (x .line) → length w′ ≡ length w → length l′ ≡ length l
+      → lent w′ l′ ≡ withWord (lent w l) (x .line) → length w′ ≡ length w → length l′ ≡ length l
       → Kept text start w₀ l₀ w′ l′ (at + x .next)
   kept-more {w = w} {l = l} w′ l′ k e p q =
       record {
@@ -145,10 +144,10 @@ module _ {text : List ℕ} {at : ℕ} {r : Machine} {last : Last} {x : Read} (a 
         labels = q ∙ k .labels;
         same =
             ap (fill (lines (drop (at + x .next) text))) e
-            ∙ ap (λ (xs : List ℕ). fill (lines xs) (withWord (bank w l) (x .line))) (sym (a .here .behind))
-            ∙ ap (λ (z : Read). fill (lines (drop (z .next) (drop at text))) (withWord (bank w l) (z .line))) (sym (a .here .reads))
+            ∙ ap (λ (xs : List ℕ). fill (lines xs) (withWord (lent w l) (x .line))) (sym (a .here .behind))
+            ∙ ap (λ (z : Read). fill (lines (drop (z .next) (drop at text))) (withWord (lent w l) (z .line))) (sym (a .here .reads))
             ∙ sym
-            (fill-first (drop at text) (bank w l) (a .here .more)
+            (fill-first (drop at text) (lent w l) (a .here .more)
             (λ m. accepted-good (ap (λ (z : Read). z .line) (sym (a .here .reads)) ∙ m)))
             ∙ k .same;
       }
@@ -161,6 +160,6 @@ judged-end text start r₀ r last at n j h = rw (no-lines text at h) at (j .same
 
 -- Their words are kept.
 pub kept-end : (text : List ℕ) (start : ℕ) (w₀ l₀ w l : List ℕ) (at : ℕ) → Kept text start w₀ l₀ w l at → length text ≤ at
-    → bank w l ≡ fill (lines (drop start text)) (bank w₀ l₀)
+    → lent w l ≡ fill (lines (drop start text)) (lent w₀ l₀)
 unfolding fill
 kept-end text start w₀ l₀ w l at k h = rw (no-lines text at h) at (k .same)

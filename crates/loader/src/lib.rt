@@ -8,6 +8,8 @@ use model::CallGate;
 use model::Pair;
 use model::format::Line;
 use model::judging::Header;
+use model::numbers;
+use model::numbers::LONGEST_TEXT;
 use reader::read_line;
 use verdicts::BEHIND_HEADER;
 use verdicts::header_verdict;
@@ -18,12 +20,13 @@ ghost use mathlib.Core.Bool.{true};
 ghost use mathlib.Core.List.{_++_};
 ghost use Prim.Native.Nat.{_≤_};
 ghost use lib.ListN.{length, take, drop};
-ghost use Rattle.model.specs.Numbers.{longestText};
+ghost use Rattle.model.specs.Numbers.{registerCount, longestText};
+ghost use Rattle.model.specs.Record.{lent};
 ghost use Rattle.model.specs.Text.{lines};
 ghost use Rattle.model.specs.Load.{machineOfHeader, withGate, withRegister, withLine, headerInRange, gateInRange, entryInRange, withWord, load};
 ghost use Rattle.machine.specs.Answered.{recordOf};
 ghost use Rattle.texts.specs.Inner.Storable.{isStorable};
-ghost use Rattle.loader.specs.Load.{bank, loadingOf};
+ghost use Rattle.loader.specs.Load.{loadingOf};
 ghost use Rattle.loader.specs.Inner.Judging.{IsRefusal, takes, LinesJudged, loadLines};
 
 // The outcome, the refusal's line or 0, and the record: beside a refusal stands one of size 0.
@@ -33,11 +36,8 @@ pub struct Loaded {
     pub machine: Machine,
 }
 
-// The most bytes of a text.
-const LONGEST_TEXT: usize = 65535;
-
 // The most words that a machine can have.
-const MOST_WORDS: usize = 2048;
+const MOST_WORDS: usize = numbers::MOST_WORDS as usize;
 
 // A refusal.
 fn refused(cause: Cause, line: u32) -> Loaded
@@ -45,7 +45,7 @@ fn refused(cause: Cause, line: u32) -> Loaded
 {
     Loaded {
         outcome: Outcome::Refused(cause),
-        line: line,
+        line,
         machine: Machine::blank(0, 0, 0, Pair { pc: 0, timing: 0 }, 0),
     }
 }
@@ -88,7 +88,7 @@ fn with_gate(machine: Machine, pc: u64, p: u64, t: u64) -> Machine
 
 // One register set.
 fn with_register(machine: Machine, k: u64, label: u64, value: u64) -> Machine
-    requires { ⌜ entryInRange 16 k label value ≡ true ⌝ }
+    requires { ⌜ entryInRange registerCount k label value ≡ true ⌝ }
     ensures { λ r. ⌜ recordOf r ≡ withRegister (recordOf machine) k label value ⌝ }
 {
     let mut next = machine;
@@ -116,7 +116,7 @@ fn with_line(machine: Machine, line: Line) -> Machine
 fn store_word(line: Line, words: &mut [u32], labels: &mut [u8])
     requires { ⌜ isStorable (length (now words)) line ≡ true ⌝ }
     requires { ⌜ isStorable (length (now labels)) line ≡ true ⌝ }
-    ensures { λ r. ⌜ bank (now (words .exit)) (now (labels .exit)) ≡ withWord (bank (now (words .entry)) (now (labels .entry))) line ⌝ }
+    ensures { λ r. ⌜ lent (now (words .exit)) (now (labels .exit)) ≡ withWord (lent (now (words .entry)) (now (labels .entry))) line ⌝ }
 {
     let Line::W(address, label, value) = line else {
         return;
@@ -137,7 +137,7 @@ fn judge_lines(
 ) -> Loaded
     requires { ⌜ length (now text) ≤ longestText ⌝ }
     requires { ⌜ (header .fixed .size ≤ length (now words)) × (header .fixed .size ≤ length (now labels)) ⌝ }
-    ensures { λ r. ⌜ LinesJudged (recordOf header) (lines (drop start (now (text .entry)))) (bank (now (words .entry)) (now (labels .entry))) r (bank (now (words .exit)) (now (labels .exit))) ⌝ }
+    ensures { λ r. ⌜ LinesJudged (recordOf header) (lines (drop start (now (text .entry)))) (lent (now (words .entry)) (now (labels .entry))) r (lent (now (words .exit)) (now (labels .exit))) ⌝ }
 {
     let mut machine = header;
     let mut last = BEHIND_HEADER;
@@ -159,7 +159,7 @@ fn judge_lines(
     Loaded {
         outcome: Outcome::Done,
         line: 0,
-        machine: machine,
+        machine,
     }
 }
 
@@ -198,7 +198,7 @@ fn load_lines(
     requires { ⌜ length (now text) ≤ longestText ⌝ }
     requires { ⌜ headerInRange header ≡ true ⌝ }
     requires { ⌜ (header .size ≤ length (now words)) × (header .size ≤ length (now labels)) ⌝ }
-    ensures { λ r. ⌜ loadingOf r (now (words .exit)) (now (labels .exit)) ≡ loadLines header (lines (drop start (now (text .entry)))) (bank (now (words .entry)) (now (labels .entry))) ⌝ }
+    ensures { λ r. ⌜ loadingOf r (now (words .exit)) (now (labels .exit)) ≡ loadLines header (lines (drop start (now (text .entry)))) (lent (now (words .entry)) (now (labels .entry))) ⌝ }
 {
     let mut kept_words = [0u32; MOST_WORDS];
     let mut kept_labels = [Label::LOWEST.0; MOST_WORDS];
@@ -221,7 +221,7 @@ fn load_lines(
 
 // Load a text into the machine record and the lent memory. A refusal leaves words and labels as they are.
 pub fn load(text: &[u8], words: &mut [u32], labels: &mut [u8]) -> Loaded
-    ensures { λ r. ⌜ loadingOf r (now (words .exit)) (now (labels .exit)) ≡ load (now (text .entry)) (bank (now (words .entry)) (now (labels .entry))) ⌝ }
+    ensures { λ r. ⌜ loadingOf r (now (words .exit)) (now (labels .exit)) ≡ load (now (text .entry)) (lent (now (words .entry)) (now (labels .entry))) ⌝ }
 {
     let well_sized = (1 <= text.len()) & (text.len() <= LONGEST_TEXT);
     if !well_sized {

@@ -5,6 +5,8 @@ pub mod format;
 pub mod judging;
 pub mod numbers;
 
+use numbers::MOST_GATES;
+
 // A pc label and a timing label (the paper's place label p and clock label t).
 pub struct Pair {
     pub pc: u8,
@@ -36,7 +38,7 @@ pub struct Fixed {
     pub limit: u32,
     pub errorpc: u32,
     pub count: u32,
-    pub gates: [CallGate; 8],
+    pub gates: [CallGate; MOST_GATES as usize],
 }
 
 // What a step reads and changes besides registers and memory. `end` is 0 running, 1 halted, 2 clock spent, 3 stalled;

@@ -8,6 +8,7 @@ use machine::is_lent_whole;
 use model::Call;
 use model::Control;
 use model::Pair;
+use model::numbers::REGISTER_COUNT;
 use writer::write_line;
 ghost use mathlib.Core.Path.{_≡_};
 ghost use Prim.Native.Nat.{_+_, _*_, _≤_};
@@ -33,9 +34,6 @@ const W: u8 = b'W';
 const GATE: u64 = 1;
 
 const UPCALL: u64 = 2;
-
-// How many registers there are.
-const REGISTER_COUNT: usize = 16;
 
 // The outcome, how many bytes were written, and the record as it was given.
 pub struct Printed {

@@ -6,6 +6,9 @@ use model::format::Line;
 use model::judging::Header;
 use model::judging::Kind;
 use model::judging::Last;
+use model::numbers;
+use model::numbers::MOST_GATES;
+use model::numbers::VALUE_COUNT;
 ghost use mathlib.Core.Path.{_≡_};
 ghost use lib.ListN.{length};
 ghost use Rattle.causes.specs.Tests.{firstRefusal};
@@ -14,22 +17,16 @@ ghost use Rattle.model.specs.Load.{headerInRange, gateInRange, entryInRange, ra
 ghost use Rattle.verdicts.specs.Inner.Verdicts.{gateTests, entryTests};
 
 // The most words of a machine.
-const MOST_WORDS: u64 = 2048;
+const MOST_WORDS: u64 = numbers::MOST_WORDS as u64;
 
 // The most ticks of a limit.
-const MOST_TICKS: u64 = 16777216;
-
-// Values and pcs are below this number.
-const VALUE_COUNT: u64 = 4294967296;
+const MOST_TICKS: u64 = numbers::MOST_TICKS as u64;
 
 // Labels are below this number.
-const LABEL_COUNT: u64 = 256;
-
-// How many gates there may be.
-const MOST_GATES: u32 = 8;
+const LABEL_COUNT: u64 = labels::LABEL_COUNT as u64;
 
 // How many registers there are.
-const REGISTER_COUNT: u32 = 16;
+const REGISTER_COUNT: u32 = numbers::REGISTER_COUNT as u32;
 
 // What the line behind the M line is tried against.
 pub const BEHIND_HEADER: Last = Last {

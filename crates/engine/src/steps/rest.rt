@@ -12,6 +12,7 @@ use crate::word::c_of;
 use crate::word::d_of;
 use crate::word::index;
 use crate::word::op_of;
+use labels::LABEL_COUNT;
 use labels::Label;
 use model::Call;
 use model::CallGate;
@@ -31,9 +32,6 @@ ghost use Rattle.model.specs.Word.{aField, bField, cField, dField};
 ghost use Rattle.model.specs.Ops.{write, goto, nothing, label, enter, openUpcall, openGate, closeGate, isLabel, noGate};
 ghost use Rattle.model.specs.Step.{close, stall, carry};
 ghost use Rattle.engine.specs.Inner.Rest.{decisionOf, allowed, gateAllowed, Acts, Held, Short, Timely, Rested, Other, Ready, Planned, Limited, Decided};
-
-// Labels are below this number.
-const LABEL_COUNT: u32 = 256;
 
 // What an op changes that is carried out.
 pub enum Act {

@@ -8,7 +8,7 @@ use native.Mathlib.Omega.{arith}
 use lib.ListN.{length}
 use borrow.Author.Needs.{needs}
 use Rattle.machine.specs.Answered.{recordOf}
-use Rattle.loader.specs.Load.{bank}
+use Rattle.model.specs.Record.{lent}
 use Rattle.loader.proofs.Behind.{refused-lines}
 use Rattle.loader.proofs.Reading.{At, read-at, Judged, Kept, judged-refused, Accepted, accepted-moves, accepted-taken, accepted-stored, judged-more, kept-more, judged-end, kept-end}
 use Rattle.loader.proofs.judge_lines.Statement.{statement}
@@ -66,7 +66,7 @@ returns : tie.Need-returns Inv-loop μ-loop
 returns c =
     let judged = c .before .before .before .before in
     let loop = judged .before .before .before .before .loop in
-    refused-lines _ _ _ _ _ _ (bank (loop .words) (loop .labels)) (c .refused .ensures)
+    refused-lines _ _ _ _ _ _ (lent (loop .words) (loop .labels)) (c .refused .ensures)
     (judged-refused _ (line-at (judged .before)) (judged .line-verdict .ensures) (loop .inv .0)
     (c .before .before .tried .given .1))
 

@@ -8,7 +8,7 @@ use Rattle.causes.specs.declared.Outcome.{Outcome}
 use Rattle.causes.specs.declared.Outcome.the-variants.{Done}
 use Rattle.model.specs.declared.judging.Header.{Header}
 use Rattle.verdicts.proofs.Negated.{fails, passes}
-use Rattle.loader.specs.Load.{bank}
+use Rattle.model.specs.Record.{lent}
 use Rattle.loader.proofs.Answer.{refused-loading, text-length, not-long, Begun, text-other, Headed, header-refused, header-passed, header-in-range, header-lent, header-loaded}
 use Rattle.loader.proofs.load.Statement.{statement}
 use Rattle.loader.proofs.load.Tie as tie
@@ -77,7 +77,7 @@ headed c =
     record {
       begun = begun (read c);
       line = c .before .before .first .given .1;
-      tests = c .header-verdict .ensures (bank (lent .words .now) (lent .labels .now)) refl refl;
+      tests = c .header-verdict .ensures (lent (lent .words .now) (lent .labels .now)) refl refl;
     }
 
 enum-known-tried : tie.Need-enum-known-tried

@@ -7,11 +7,10 @@ use native.Mathlib.Omega.{arith}
 use lib.ListN.{length, drop}
 use borrow.Author.Needs.{needs}
 use Rattle.model.specs.Numbers.{mostWords}
-use Rattle.model.specs.Record.{Machine}
+use Rattle.model.specs.Record.{Machine, lent}
 use Rattle.model.specs.Text.{lines}
 use Rattle.model.specs.Load.{blank, machineOfHeader}
 use Rattle.texts.proofs.Ranges.{header-range}
-use Rattle.loader.specs.Load.{bank}
 use Rattle.loader.specs.Inner.Judging.{LinesJudged}
 use Rattle.loader.proofs.Behind.{judged-blank, line-refused, lines-accepted}
 use Rattle.loader.proofs.load_lines.Statement.{statement}
@@ -61,7 +60,7 @@ kept-labels c = c .judge-lines .last .1 .1 .1 .1 .0
 -- They are judged.
 judged : (c : tie.After-judge-lines)
     → LinesJudged (machineOfHeader (called c .args .header)) (lines (drop (called c .args .start) (called c .args .text .now)))
-    (blank mostWords) (c .judge-lines .result) (bank (kept-words c) (kept-labels c))
+    (blank mostWords) (c .judge-lines .result) (lent (kept-words c) (kept-labels c))
 judged c = judged-blank _ _ _ _ _ (c .before .before .before .machine-of .ensures) (c .judge-lines .ensures)
 
 returns : tie.Need-returns

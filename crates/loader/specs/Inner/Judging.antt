@@ -9,6 +9,7 @@ use Rattle.causes.specs.declared.Outcome.the-variants.{Done, Refused}
 use Rattle.model.specs.declared.format.Line.{Line}
 use Rattle.model.specs.declared.format.Line.the-variants.{M, G, R, W, Malformed}
 use Rattle.model.specs.declared.judging.Header.{Header}
+use Rattle.model.specs.Numbers.{registerCount}
 use Rattle.model.specs.Record.{Bank, Machine}
 use Rattle.model.specs.Load.{machineOfHeader, gateInRange, entryInRange, behindHeader, Verdict, accept, tried, judge, fill, Loading, noMachine, settle}
 use Rattle.machine.specs.Answered.{recordOf}
@@ -22,7 +23,7 @@ IsRefusal r c n = (r .outcome ≡ Refused c) × (r .line ≡ n) × (recordOf (r 
 abbrev pub takes : ℕ → Line → Bool
 takes count (M a b c d e f) = true
 takes count (G pc p t) = gateInRange count pc p t
-takes count (R k l v) = entryInRange 16 k l v
+takes count (R k l v) = entryInRange registerCount k l v
 takes count (W k l v) = true
 takes count Malformed = true
 
