@@ -46,7 +46,7 @@ pub record Assigned (before : List ℕ) (a : ℕ) (ok : Bool) (v ticks pc clock 
   pub turn : r ≡ timed ticks (pc + 1) pc clock deadline
   pub values : after ≡ cond (leb (clock + ticks) deadline) (cond ok (set before a v) before) before
 
--- The same with word x, and the check of op 9.
+-- Register a got word x if the op finishes by the deadline and the check of op 9 passed.
 pub record ReadWord (before words marks : List ℕ) (a x p lb la size pc clock deadline : ℕ) (r : Turn) (after : List ℕ) : Type 0 where
   pub turn : r ≡ timed 3 (pc + 1) pc clock deadline
   pub values :
