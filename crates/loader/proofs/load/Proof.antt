@@ -73,11 +73,11 @@ Head c =
 
 headed : (c : tie.After-header-verdict) → Head c (c .header-verdict .result)
 headed c =
-    let lent = start (read c) .args in
+    let given = start (read c) .args in
     record {
       begun = begun (read c);
       line = c .before .before .first .given .1;
-      tests = c .header-verdict .ensures (lent (lent .words .now) (lent .labels .now)) refl refl;
+      tests = c .header-verdict .ensures (lent (given .words .now) (given .labels .now)) refl refl;
     }
 
 enum-known-tried : tie.Need-enum-known-tried
