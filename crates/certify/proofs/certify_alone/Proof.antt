@@ -9,6 +9,10 @@ use Rattle.certify.proofs.Answer.{refusal-line, certificate-line, alone
 use Rattle.certify.proofs.certify_alone.Statement.{statement}
 use Rattle.certify.proofs.certify_alone.Tie as tie
 
+-- Where the function began, seen from its certificate.
+abbrev start : tie.After-certify → tie.Start
+start c = c .before .before .before .before
+
 slice-aggregate-certify : tie.Need-slice-aggregate-certify
 slice-aggregate-certify c = search needs
 
@@ -42,13 +46,15 @@ write-line-requires c κs = search needs
 returns : tie.Need-returns
 unfolding programMemory
 returns c =
-    let start = c .before .before .before .before .before .before .before .before .before .before .before .before .before in
+    let numbered = c .before .before .before .before in
+    let refused = numbered .before in
+    let certified = refused .before .before .before .before in
+    let asked = start certified .args in
     let whole =
-    alone-wrote (start .args .label) (start .args .text .now) (start .args .out .now) (search needs) _
-    (c .before .before .before .before .before .before .before .before .before .certify .ensures) 88 _
-    (refusal-line _ (ap isDone (c .before .before .before .before .before .enum-told2 .given .1)) (c .before .before .before .before .number .ensures) refl) (omega arith)
+    alone-wrote (asked .label) (asked .text .now) (asked .out .now) (search needs) _ (certified .certify .ensures) 88 _
+    (refusal-line _ (ap isDone (refused .enum-told2 .given .1)) (numbered .number .ensures) refl) (omega arith)
     (c .write-line .ensures) in
-    (whole, alone-counts (start .args .label) (start .args .text .now) (start .args .out .now) _ whole)
+    (whole, alone-counts (asked .label) (asked .text .now) (asked .out .now) _ whole)
 
 cast-cause : tie.Need-cast-cause
 cast-cause c = search needs
@@ -68,12 +74,13 @@ write-line-requires-2 c κs = search needs
 returns-2 : tie.Need-returns-2
 unfolding programMemory
 returns-2 c =
-    let start = c .before .before .before .before .before .before .before .before .before .before .before .before .before .before .before in
+    let accepted = c .before .before .before .before .before .before .before in
+    let certified = accepted .before .before .before .before in
+    let asked = start certified .args in
     let whole =
-    alone-wrote (start .args .label) (start .args .text .now) (start .args .out .now) (search needs) _
-    (c .before .before .before .before .before .before .before .before .before .before .before .certify .ensures) 86 _ (certificate-line _ (c .before .before .before .before .before .before .before .enum-told .given .1)) (omega arith)
-    (c .write-line2 .ensures) in
-    (whole, alone-counts (start .args .label) (start .args .text .now) (start .args .out .now) _ whole)
+    alone-wrote (asked .label) (asked .text .now) (asked .out .now) (search needs) _ (certified .certify .ensures) 86 _
+    (certificate-line _ (accepted .enum-told .given .1)) (omega arith) (c .write-line2 .ensures) in
+    (whole, alone-counts (asked .label) (asked .text .now) (asked .out .now) _ whole)
 
 pub certify-alone-spec : {M : Type 1} → statement M
 certify-alone-spec =

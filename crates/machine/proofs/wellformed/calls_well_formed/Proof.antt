@@ -1,10 +1,15 @@
 -- `machine::wellformed::calls_well_formed` meets its contract.
 -- Assumes nothing.
 use borrow.Author.Needs.{needs}
+use Rattle.model.specs.declared.Control.{Control}
 use Rattle.machine.specs.Inner.WellFormed.{controlAt}
 use Rattle.machine.proofs.Whole.{calls-empty, calls-gate, calls-upcall}
 use Rattle.machine.proofs.wellformed.calls_well_formed.Statement.{statement}
 use Rattle.machine.proofs.wellformed.calls_well_formed.Tie as tie
+
+-- A control at the pair and the clock that were given.
+abbrev control : tie.Start → Control → Control
+control start x = controlAt x (start .args .p) (start .args .t) (start .args .clock)
 
 enum-told : tie.Need-enum-told
 enum-told c = search needs
@@ -31,13 +36,24 @@ upcall-well-formed-requires : tie.Need-upcall-well-formed-requires
 upcall-well-formed-requires c κs = search needs
 
 returns : tie.Need-returns
-returns c = λ x. rw (c .before .enum-told .given .1, c .is-absent .ensures) (calls-empty (controlAt x (c .before .before .before .args .p) (c .before .before .before .args .t) (c .before .before .before .args .clock)) (c .before .before .before .args .second))
+returns c =
+    let start = c .before .before .before in
+    λ x. rw (c .before .enum-told .given .1, c .is-absent .ensures) (calls-empty (control start x) (start .args .second))
 
 returns-2 : tie.Need-returns-2
-returns-2 c = λ x. rw (c .before .before .before .first .given .1, c .over-gate .ensures x, c .before .is-valid-pair .ensures) (calls-gate (controlAt x (c .before .before .before .before .before .args .p) (c .before .before .before .before .before .args .t) (c .before .before .before .before .before .args .clock)) (c .before .before .before .first .given .0 .0) (c .before .before .before .first .given .0 .1 .0) (c .before .before .before .before .before .args .second))
+returns-2 c =
+    let gate = c .before .before .before in
+    let start = gate .before .before in
+    λ x. rw (gate .first .given .1, c .over-gate .ensures x, c .before .is-valid-pair .ensures)
+    (calls-gate (control start x) (gate .first .given .0 .0) (gate .first .given .0 .1 .0) (start .args .second))
 
 returns-3 : tie.Need-returns-3
-returns-3 c = λ x. rw (c .before .before .before .first2 .given .1, c .upcall-well-formed .ensures x, c .before .is-absent2 .ensures) (calls-upcall (controlAt x (c .before .before .before .before .before .args .p) (c .before .before .before .before .before .args .t) (c .before .before .before .before .before .args .clock)) (c .before .before .before .first2 .given .0 .0) (c .before .before .before .first2 .given .0 .1 .0) (c .before .before .before .first2 .given .0 .1 .1 .0) (c .before .before .before .before .before .args .second))
+returns-3 c =
+    let upcall = c .before .before .before in
+    let start = upcall .before .before in
+    λ x. rw (upcall .first2 .given .1, c .upcall-well-formed .ensures x, c .before .is-absent2 .ensures)
+    (calls-upcall (control start x) (upcall .first2 .given .0 .0) (upcall .first2 .given .0 .1 .0)
+    (upcall .first2 .given .0 .1 .1 .0) (start .args .second))
 
 pub calls-well-formed-spec : {M : Type 1} → statement M
 calls-well-formed-spec =
