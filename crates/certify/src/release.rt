@@ -2,6 +2,7 @@
 use crate::breaks::is_within;
 use engine::calls::newest;
 use engine::steps::deadline_of;
+use engine::word::RELABEL;
 use engine::word::a_of;
 use engine::word::b_of;
 use engine::word::index;
@@ -15,9 +16,7 @@ ghost use mathlib.Core.Path.{_≡_};
 ghost use lib.ListN.{length};
 ghost use Rattle.certify.specs.Inner.Release.{relabellingAt, triesWith, releasesWith, hasTime};
 
-// The op that relabels, and its ticks.
-const RELABEL: u32 = 16;
-
+// The ticks of an op that relabels.
 const TICKS: u32 = 2;
 
 // What the fetch gives: a word that relabels, or anything else.

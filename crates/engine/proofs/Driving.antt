@@ -2,7 +2,7 @@
 -- Assumes nothing.
 use Prim.Native.Nat.{ℕ, zero, suc, _-_, _≤_, _<_}
 use mathlib.Core.Path.{_≡_, refl, sym, ap, _∙_, subst}
-use mathlib.Core.Bool.{Bool, true, false, _&&_, _||_, or-false}
+use mathlib.Core.Bool.{Bool, true, false, _&&_, or-false}
 use mathlib.Core.List.{List, []}
 use native.Mathlib.Omega.{arith}
 use lib.Dec.{ltb, eqb}
@@ -13,8 +13,9 @@ use Rattle.model.specs.declared.Fixed.{Fixed}
 use Rattle.model.specs.declared.Control.{Control}
 use Rattle.model.specs.declared.Call.{Call}
 use Rattle.model.specs.Numbers.{mostWords}
-use Rattle.model.specs.Record.{State, isUpcall, endTickOf, newest, inUpcall}
+use Rattle.model.specs.Record.{State, lent, endTickOf, newest, inUpcall}
 use Rattle.model.proofs.Truth.{and-iff, or-iff, clash}
+use Rattle.model.proofs.Ready.{whole-lengths, whole-lent}
 use Rattle.model.specs.Step.{Decision, endTick, running, decide, written, writeOf, controlAfter, apply, withControl, step, steps}
 use Rattle.engine.specs.declared.steps.common.Stop.{Stop}
 use Rattle.engine.specs.declared.steps.common.Stop.the-variants.{Out, Late, Outside, Unreadable, Failed, Rest}
@@ -23,7 +24,7 @@ use Rattle.engine.specs.declared.steps.common.Context.{Context}
 use Rattle.engine.specs.declared.steps.drive.Halted.{Halted}
 use Rattle.engine.specs.declared.steps.rest.Verdict.{Verdict}
 use Rattle.engine.specs.declared.steps.rest.Verdict.the-variants.{Spend, Stall, Close, Carry}
-use Rattle.engine.specs.Calls.{deadlineOf, newestOf}
+use Rattle.engine.specs.Calls.{newestOf}
 use Rattle.engine.specs.Advance.{stateFrom, fitting, advanced, strode}
 use Rattle.engine.specs.Inner.Common.{view, Timed, Stopped}
 use Rattle.engine.specs.Inner.Sprint.{Paused, Sprinted}
@@ -248,21 +249,22 @@ module _ {fixed : Fixed} {control : Control} {words marks : List ℕ} where
   pub ranges-there : fitting (stateFrom fixed control [] [] words marks) ≡ true → InRanges fixed control words marks
   ranges-there e =
       let h = simp and-iff at e in
+      let w = whole-lengths _ (lent words marks) (h .1) in
       record {
-        size = leb-true _ _ (h .0 .0 .0 .0 .0);
-        limit = leb-true _ _ (h .0 .0 .0 .0 .1);
-        gates = leb-true _ _ (h .0 .0 .0 .1);
-        clock = leb-true _ _ (h .0 .0 .1);
-        words = leb-true _ _ (h .0 .1);
-        marks = leb-true _ _ (h .1);
+        size = leb-true _ _ (h .0 .0 .0 .0);
+        limit = leb-true _ _ (h .0 .0 .0 .1);
+        gates = leb-true _ _ (h .0 .0 .1);
+        clock = leb-true _ _ (h .0 .1);
+        words = w .0;
+        marks = w .1;
       }
 
   pub advanced-there : (n : ℕ) (values labels : List ℕ) → InRanges fixed control words marks
       → advanced n (stateFrom fixed control values labels words marks) ≡ steps n (stateFrom fixed control values labels words marks)
   advanced-there n values labels h =
-      rw (le-leb _ _ (h .size), le-leb _ _ (h .limit), le-leb _ _ (h .gates), le-leb _ _ (h .clock), le-leb _ _ (h .words), le-leb _ _ (h .marks))
+      rw (le-leb _ _ (h .size), le-leb _ _ (h .limit), le-leb _ _ (h .gates), le-leb _ _ (h .clock), whole-lent _ (lent words marks) (h .words) (h .marks))
 
   pub strode-there : (n : ℕ) (values labels : List ℕ) → InRanges fixed control words marks
       → strode n (stateFrom fixed control values labels words marks) ≡ stride n (stateFrom fixed control values labels words marks)
   strode-there n values labels h =
-      rw (le-leb _ _ (h .size), le-leb _ _ (h .limit), le-leb _ _ (h .gates), le-leb _ _ (h .clock), le-leb _ _ (h .words), le-leb _ _ (h .marks))
+      rw (le-leb _ _ (h .size), le-leb _ _ (h .limit), le-leb _ _ (h .gates), le-leb _ _ (h .clock), whole-lent _ (lent words marks) (h .words) (h .marks))

@@ -4,11 +4,11 @@ use Prim.Native.Nat.{ℕ}
 use mathlib.Core.Bool.{Bool, _&&_, cond}
 use mathlib.Core.List.{List}
 use lib.Dec.{leb}
-use lib.ListN.{length}
 use Rattle.model.specs.declared.Fixed.{Fixed}
 use Rattle.model.specs.declared.Control.{Control}
 use Rattle.model.specs.Numbers.{mostWords, mostTicks, mostGates}
-use Rattle.model.specs.Record.{State}
+use Rattle.model.specs.Record.{State, lent}
+use Rattle.model.specs.WellFormed.{lentWhole}
 use Rattle.model.specs.Step.{steps}
 use Rattle.engine.specs.declared.steps.drive.Halted.{Halted}
 use Rattle.engine.specs.Skim.{Skim, stride}
@@ -16,13 +16,13 @@ use Rattle.engine.specs.Skim.{Skim, stride}
 -- The state of these parts.
 abbrev pub stateFrom : Fixed → Control → List ℕ → List ℕ → List ℕ → List ℕ → State
 stateFrom fixed control values labels words marks =
-    record { fixed = fixed; control = control; registers = record { values = values; labels = labels }; memory = record { values = words; labels = marks } }
+    record { fixed = fixed; control = control; registers = record { values = values; labels = labels }; memory = lent words marks }
 
 -- The ranges hold that the steps rest on, and words and labels are lent whole.
 abbrev pub fitting : State → Bool
 fitting s =
-    leb (s .fixed .size) mostWords && leb (s .fixed .limit) mostTicks && leb (s .fixed .count) mostGates && leb (s .control .clock) (s .fixed .limit)
-    && leb (s .fixed .size) (length (s .memory .values)) && leb (s .fixed .size) (length (s .memory .labels))
+    leb (s .fixed .size) mostWords && leb (s .fixed .limit) mostTicks && leb (s .fixed .count) mostGates
+    && leb (s .control .clock) (s .fixed .limit) && lentWhole (s .fixed .size) (s .memory)
 
 -- So many steps of such a state. Any other stays as it is.
 abbrev pub advanced : ℕ → State → State

@@ -44,6 +44,10 @@ unfoldable pub skim : ℕ → State → Skim
 skim zero s = record { state = s; left = 0 }
 skim (suc n) s = cond (isCommon s) (skim n (step s)) (record { state = s; left = suc n })
 
+-- The number of the op that relabels.
+abbrev pub relabelOp : ℕ
+relabelOp = 16
+
 -- The word that was fetched relabels.
 abbrev pub fetchesRelabelling : Fetched → Bool
 fetchesRelabelling (failed why) = false

@@ -11,27 +11,25 @@ use model::numbers::MOST_TICKS;
 use model::numbers::MOST_WORDS;
 use model::numbers::REGISTER_COUNT;
 ghost use mathlib.Core.Path.{_≡_};
-ghost use mathlib.Core.Bool.{_&&_};
-ghost use lib.Dec.{leb};
-ghost use Rattle.model.specs.Numbers.{mostWords, mostTicks, mostGates};
-ghost use Rattle.engine.specs.Advance.{stateFrom, advanced, strodeFrom, strode};
+ghost use mathlib.Core.List.{[]};
+ghost use Rattle.engine.specs.Advance.{stateFrom, fitting, advanced, strodeFrom, strode};
 
 mod apply;
 mod common;
 mod drive;
 mod rest;
 
-// Whether the steps can be done with words and labels of these lengths.
-fn is_fitting(fixed: Fixed, start: Control, words: usize, labels: usize) -> bool
-    ensures { λ r. ⌜ r ≡ (leb (fixed .size) mostWords && leb (fixed .limit) mostTicks && leb (fixed .count) mostGates && leb (start .clock) (fixed .limit) && leb (fixed .size) words && leb (fixed .size) labels) ⌝ }
+// Whether the steps can be done with these words and labels.
+fn is_fitting(fixed: Fixed, start: Control, words: &[u32], marks: &[u8]) -> bool
+    ensures { λ r. ⌜ r ≡ fitting (stateFrom fixed start [] [] (now (words .entry)) (now (marks .entry))) ⌝ }
 {
     let size = index(fixed.size);
+    let whole = (size <= words.len()) & (size <= marks.len());
     (fixed.size <= MOST_WORDS)
         & (fixed.limit <= MOST_TICKS)
         & (fixed.count <= MOST_GATES)
         & (start.clock <= fixed.limit)
-        & (size <= words)
-        & (size <= labels)
+        & whole
 }
 
 // So many steps from the control `start`, with the registers and memory as they are lent.
@@ -46,7 +44,7 @@ pub fn advance(
 ) -> Control
     ensures { λ r. ⌜ stateFrom fixed r (now (values .exit)) (now (labels .exit)) (now (words .exit)) (now (marks .entry)) ≡ advanced count (stateFrom fixed start (now (values .entry)) (now (labels .entry)) (now (words .entry)) (now (marks .entry))) ⌝ }
 {
-    if is_fitting(fixed, start, words.len(), marks.len()) {
+    if is_fitting(fixed, start, words, marks) {
         let halted = drive(fixed, start, count, false, values, labels, words, marks);
         return halted.control;
     }
@@ -66,7 +64,7 @@ pub fn stride(
 ) -> Halted
     ensures { λ r. ⌜ strodeFrom fixed r (now (values .exit)) (now (labels .exit)) (now (words .exit)) (now (marks .entry)) ≡ strode count (stateFrom fixed start (now (values .entry)) (now (labels .entry)) (now (words .entry)) (now (marks .entry))) ⌝ }
 {
-    if is_fitting(fixed, start, words.len(), marks.len()) {
+    if is_fitting(fixed, start, words, marks) {
         return drive(fixed, start, count, true, values, labels, words, marks);
     }
     Halted {

@@ -4,6 +4,9 @@ ghost use mathlib.Core.Path.{_≡_};
 ghost use Rattle.model.specs.Numbers.{registerCount};
 ghost use Rattle.model.specs.Word.{opField, aField, bField, cField, dField, nField};
 
+// The number of the op that relabels.
+pub const RELABEL: u32 = 16;
+
 // The op's number.
 pub fn op_of(w: u32) -> u32
     ensures { λ r. ⌜ r ≡ opField w ⌝ }

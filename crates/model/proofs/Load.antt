@@ -9,7 +9,7 @@ use native.Mathlib.Nat.{lt-of-lt-of-le}
 use native.Mathlib.Omega.{arith}
 use lib.Dec.{leb, ltb, lit<, lit≤}
 use lib.ListN.{length, drop, replicate, length-set, length-append, length-replicate, getD-replicate, List·getD-append}
-use borrow.Author.Tests.{leb-true, ltb-true, le-leb}
+use borrow.Author.Tests.{leb-true, ltb-true}
 use Rattle.labels.specs.Label.{labelCount, lowest}
 use Rattle.labels.proofs.Constants.{lowest-number}
 use Rattle.causes.specs.declared.Cause.{Cause}
@@ -36,7 +36,7 @@ use Rattle.model.specs.Text.{lines}
 use Rattle.model.specs.Load.{machineOfHeader, withGate, withRegister, withEntry, withLine, headerInRange, gateInRange, entryInRange, headerTests, lineTests, behindHeader, lastOf, Verdict, refuse, accept, tried, judge, judgeHeader, judgeLines, judgeText, cleared, withWord, fill, settle, load}
 use Rattle.model.specs.Program.{stateOfLoad}
 use Rattle.model.proofs.Truth.{choice, and-iff, clash}
-use Rattle.model.proofs.Ready.{FixedFit, none, fit, fits, whole-lengths, Ready}
+use Rattle.model.proofs.Ready.{FixedFit, none, fit, fits, whole-lengths, whole-lent, Ready}
 use Rattle.model.proofs.Step.{value-typed, label-typed}
 
 -- ---- the state while the lines are read
@@ -244,7 +244,7 @@ pub record Loaded (s : State) : Type 0 where
 
 -- A record and memory in order are a loaded state.
 in-order-loaded : (r : Machine) (m : Bank) → InOrder r m → Loaded (stateOf r m)
-unfolding running lentWhole
+unfolding running
 in-order-loaded r m h =
     let c = h .started in
     record {
@@ -261,7 +261,7 @@ in-order-loaded r m h =
       clock = c .clock;
       first = c .first;
       second = c .second;
-      lent = rw (le-leb _ _ (h .memory .words), le-leb _ _ (h .memory .labels));
+      lent = whole-lent _ m (h .memory .words) (h .memory .labels);
       typed = record { registers = h .registers; memory = h .memory .numbers };
     }
 
@@ -373,10 +373,7 @@ settle-not-short (accept r) ls m h e = done-or-refused refl e
 module _ (m : Bank) (words : 2048 ≤ length (m .values)) (labels : 2048 ≤ length (m .labels)) where
   lent-enough : (h : Header) → headerInRange h ≡ true
       → lentWhole (h .size) m ≡ true
-  unfolding lentWhole
-  lent-enough h e =
-      let s = header-size h e in
-      rw (le-leb (h .size) (length (m .values)) (omega arith), le-leb (h .size) (length (m .labels)) (omega arith))
+  lent-enough h e = let s = header-size h e in whole-lent (h .size) m (omega arith) (omega arith)
 
   header-early : (h : Header) → Early (firstRefusal (headerTests h m))
   unfolding headerTests firstRefusal

@@ -7,7 +7,6 @@ use mathlib.Core.Bool.{true}
 use mathlib.Core.List.{List}
 use lib.Dec.{leb}
 use lib.ListN.{length}
-use borrow.Author.Tests.{le-leb}
 use Rattle.causes.specs.declared.Cause.the-variants.{ShortOutput}
 use Rattle.causes.specs.declared.Outcome.the-variants.{Done}
 use Rattle.causes.specs.Tests.{unless}
@@ -18,14 +17,13 @@ use Rattle.model.specs.Answer.{answer, done, runAnswer}
 use Rattle.model.specs.Load.{load}
 use Rattle.model.specs.Listing.{listing, notPrinted, printed, print}
 use Rattle.model.specs.Program.{stateOfLoad}
-use Rattle.model.proofs.Ready.{fits, Ready}
+use Rattle.model.proofs.Ready.{fits, whole-lent, Ready}
 use Rattle.model.proofs.Run.{run-ready}
 use Rattle.model.proofs.Load.{loaded-ready, load-loaded}
 
 -- A ready state's memory is lent whole.
 lent : (s : State) → Ready s → lentWhole (s .fixed .size) (s .memory) ≡ true
-unfolding lentWhole
-lent s r = rw (le-leb _ _ (r .words), le-leb _ _ (r .labels))
+lent s r = whole-lent _ (s .memory) (r .words) (r .labels)
 
 -- A ready state is run without a refusal.
 pub run-done : (s : State) → Ready s → runAnswer (machineOf s) (s .memory) ≡ done (run s)

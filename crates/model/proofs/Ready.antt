@@ -136,6 +136,11 @@ unfolding lentWhole
 whole-lengths size m e =
     let h = and-iff _ _ .0 e in (leb-true size (length (m .values)) (h .0), leb-true size (length (m .labels)) (h .1))
 
+-- Where they are, it is.
+pub whole-lent : (size : ℕ) (m : Bank) → size ≤ length (m .values) → size ≤ length (m .labels) → lentWhole size m ≡ true
+unfolding lentWhole
+whole-lent size m w l = rw (le-leb size (length (m .values)) w, le-leb size (length (m .labels)) l)
+
 -- ---- the state
 
 -- A state that a call is carried out on: its record is well-formed, its lists are as the types say, and the lent words and

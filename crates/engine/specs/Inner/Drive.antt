@@ -18,7 +18,7 @@ use Rattle.engine.specs.declared.steps.common.Stop.{Stop}
 use Rattle.engine.specs.declared.steps.common.Stop.the-variants.{Out, Late, Outside, Unreadable, Failed, Rest}
 use Rattle.engine.specs.declared.steps.common.Context.{Context}
 use Rattle.engine.specs.declared.steps.drive.Halted.{Halted}
-use Rattle.engine.specs.Skim.{stride}
+use Rattle.engine.specs.Skim.{relabelOp, stride}
 use Rattle.engine.specs.Calls.{deadlineOf}
 use Rattle.engine.specs.Advance.{stateFrom, strodeFrom}
 
@@ -48,7 +48,7 @@ relabelsAt Late = false
 relabelsAt Outside = false
 relabelsAt Unreadable = false
 relabelsAt Failed = false
-relabelsAt (Rest w) = eqb (opField w) 16
+relabelsAt (Rest w) = eqb (opField w) relabelOp
 
 -- The steps end where the hot loop paused with so many of n left.
 abbrev pub endsAt : Bool → ℕ → ℕ → Stop → Bool

@@ -10,6 +10,7 @@ use crate::steps::common::Pause;
 use crate::steps::common::Stop;
 use crate::steps::common::sprint;
 use crate::steps::rest::decide;
+use crate::word::RELABEL;
 use crate::word::op_of;
 use model::Call;
 use model::Control;
@@ -21,9 +22,6 @@ ghost use mathlib.Core.Path.{_≡_};
 ghost use Rattle.model.specs.Record.{isUpcall, endTickOf};
 ghost use Rattle.engine.specs.Calls.{deadlineOf};
 ghost use Rattle.engine.specs.Inner.Drive.{contextOf, InRanges, Driven, relabelsAt, endsAt};
-
-// The op that relabels.
-const RELABEL: u32 = 16;
 
 // The tick by which a common op has to finish.
 pub fn deadline_of(limit: u32, call: Call) -> u32

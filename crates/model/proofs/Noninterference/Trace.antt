@@ -11,7 +11,7 @@ use native.Mathlib.Omega.{arith}
 use lib.Dec.{leb, ltb}
 use lib.ListN.{length, take, drop, length-take, drop-of-length-le}
 use lib.Seq.{sets, set-getD, drop-cons}
-use borrow.Author.Tests.{leb-true, leb-false, ltb-true, ltb-false, le-ltb, lt-leb, le-leb}
+use borrow.Author.Tests.{leb-true, leb-false, ltb-true, ltb-false, le-ltb, lt-leb}
 use Rattle.model.specs.declared.Request.{Request}
 use Rattle.model.specs.declared.Request.the-variants.{Step, Run}
 use Rattle.model.specs.Record.{Bank, State, machineOf, lent}
@@ -21,7 +21,7 @@ use Rattle.causes.specs.declared.Cause.the-variants.{ShortMemory}
 use Rattle.model.specs.Answer.{answer, refused, done, work}
 use Rattle.model.specs.Noninterference.{Lent, whole, part, Invocation, lend, regain, answered, after, afterAll, runStates, workStates, callStates, trace, final, atTick, reached, StepsProvisos}
 use Rattle.model.proofs.Truth.{either, not-iff}
-use Rattle.model.proofs.Ready.{fits, Ready}
+use Rattle.model.proofs.Ready.{fits, whole-lent, Ready}
 use Rattle.model.proofs.Step.{step-ready, step-passes}
 use Rattle.model.proofs.Run.{steps-ended, steps-add, steps-ready}
 use Rattle.model.proofs.Noninterference.Paths.{Allowed, Rests}
@@ -110,8 +110,8 @@ answer-short q s r e = rw (fits (machineOf s) (r .fit), e)
 -- The answer of a call that is lent all.
 answer-whole : (k : Request) (s : State) → Ready s
     → answered (record { request = k; words = whole; labels = whole }) s ≡ done (work k s)
-unfolding answered answer lend lentWhole
-answer-whole k s r = rw (fits (machineOf s) (r .fit), le-leb _ _ (r .words), le-leb _ _ (r .labels))
+unfolding answered answer lend
+answer-whole k s r = rw (fits (machineOf s) (r .fit), whole-lent _ (s .memory) (r .words) (r .labels))
 
 -- A call that is lent too little changes nothing.
 short-row : (q : Invocation) (s : State) → Ready s

@@ -1,6 +1,7 @@
 -- `engine::steps::is_fitting` meets its contract.
 -- Assumes nothing.
 use borrow.Author.Needs.{needs}
+use Rattle.model.specs.WellFormed.{lentWhole}
 use Rattle.engine.proofs.steps.is_fitting.Statement.{statement}
 use Rattle.engine.proofs.steps.is_fitting.Tie as tie
 
@@ -8,6 +9,7 @@ index-requires : tie.Need-index-requires
 index-requires c κs = search needs
 
 returns : tie.Need-returns
+unfolding lentWhole
 returns c = rw (c .before .before .before .before .before .index .ensures)
 
 pub is-fitting-spec : {M : Type 1} → statement M

@@ -23,8 +23,11 @@ returns c =
     driven .drive .ensures .one refl
     ∙ sym (strode-there _ _ _ (ranges-there (sym (tested .before .is-fitting .ensures) ∙ tested .if1 .taken)))
 
+same-length-2 : tie.Need-same-length-2
+same-length-2 c = search needs
+
 returns-2 : tie.Need-returns-2
 returns-2 c = rw (← c .before .is-fitting .ensures, c .if1 .left)
 
 pub stride-spec : {M : Type 1} → statement M
-stride-spec = tie.close (tie.spec is-fitting-requires drive-requires same-length returns returns-2)
+stride-spec = tie.close (tie.spec is-fitting-requires drive-requires same-length returns same-length-2 returns-2)
