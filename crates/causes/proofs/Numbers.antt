@@ -6,10 +6,10 @@ use mathlib.Core.Bool.{true, cond, false≢true}
 use native.Mathlib.Omega.{arith}
 use lib.Dec.{eqb}
 use Rattle.causes.specs.declared.Cause.{Cause}
-use Rattle.causes.specs.declared.Cause.the-variants.{TextLength, MalformedLine, OutOfRange, OutOfOrder, InvalidPair, ShortMemory, IllFormed, ShortOutput}
+use Rattle.causes.specs.declared.Cause.the-variants.{TextLength, MalformedLine, OutOfRange, OutOfOrder, InvalidPair, ShortMemory, IllFormed, ShortOutput, ZeroRegister}
 use Rattle.causes.specs.declared.Outcome.{Outcome}
 use Rattle.causes.specs.declared.Outcome.the-variants.{Done, Refused}
-use Rattle.causes.specs.Causes.{causeNumber, numberOf, isDone}
+use Rattle.causes.specs.Causes.{numberOf, isDone}
 
 -- The outcome that has this number.
 outcomeOf : ℕ → Outcome
@@ -20,7 +20,8 @@ outcomeOf n =
     (cond (eqb n 3) (Refused OutOfRange)
     (cond (eqb n 4) (Refused OutOfOrder)
     (cond (eqb n 5) (Refused InvalidPair)
-    (cond (eqb n 6) (Refused ShortMemory) (cond (eqb n 7) (Refused IllFormed) (Refused ShortOutput))))))))
+    (cond (eqb n 6) (Refused ShortMemory)
+    (cond (eqb n 7) (Refused IllFormed) (cond (eqb n 8) (Refused ShortOutput) (Refused ZeroRegister)))))))))
 
 -- Every outcome is the one of its number.
 outcome-of-number : (o : Outcome) → outcomeOf (numberOf o) ≡ o
@@ -34,6 +35,7 @@ outcome-of-number (Refused InvalidPair) = refl
 outcome-of-number (Refused ShortMemory) = refl
 outcome-of-number (Refused IllFormed) = refl
 outcome-of-number (Refused ShortOutput) = refl
+outcome-of-number (Refused ZeroRegister) = refl
 
 -- No two outcomes have one number.
 pub same-outcome : (o o′ : Outcome) → numberOf o ≡ numberOf o′ → o ≡ o′
@@ -50,6 +52,7 @@ small-number (Refused InvalidPair) = omega arith
 small-number (Refused ShortMemory) = omega arith
 small-number (Refused IllFormed) = omega arith
 small-number (Refused ShortOutput) = omega arith
+small-number (Refused ZeroRegister) = omega arith
 
 -- No refusal is done.
 pub done-or-refused {ℓ} : {P : Type ℓ} {o : Outcome} {c : Cause} → o ≡ Done → o ≡ Refused c → P

@@ -1,9 +1,9 @@
--- The numbers of the refusals: document 01, "Text", its table.
+-- The numbers of the refusals: document 01, "Text", its table, and the rows that requests added.
 -- Assumes nothing.
 use Prim.Native.Nat.{ℕ}
 use mathlib.Core.Bool.{Bool, true, false}
 use Rattle.causes.specs.declared.Cause.{Cause}
-use Rattle.causes.specs.declared.Cause.the-variants.{TextLength, MalformedLine, OutOfRange, OutOfOrder, InvalidPair, ShortMemory, IllFormed, ShortOutput}
+use Rattle.causes.specs.declared.Cause.the-variants.{TextLength, MalformedLine, OutOfRange, OutOfOrder, InvalidPair, ShortMemory, IllFormed, ShortOutput, ZeroRegister}
 use Rattle.causes.specs.declared.Outcome.{Outcome}
 use Rattle.causes.specs.declared.Outcome.the-variants.{Done, Refused}
 
@@ -17,6 +17,7 @@ causeNumber InvalidPair = 5
 causeNumber ShortMemory = 6
 causeNumber IllFormed = 7
 causeNumber ShortOutput = 8
+causeNumber ZeroRegister = 9
 
 -- The number of an outcome: that of the cause, or 0. No two outcomes have one number: proofs/Numbers.antt.
 abbrev pub numberOf : Outcome → ℕ

@@ -1,4 +1,5 @@
-// The refusals: a case for each row of the table of document 01, "Text", and how a call ended.
+// The refusals: a case for each row of the table of document 01, "Text", and for each that a request added; and how a call
+// ended.
 ghost use mathlib.Core.Path.{_≡_};
 ghost use Rattle.causes.specs.Causes.{numberOf, causeNumber};
 
@@ -20,6 +21,8 @@ pub enum Cause {
     IllFormed,
     // The output is shorter than the listing.
     ShortOutput,
+    // An R line for register 0.
+    ZeroRegister,
 }
 
 // How a call of load, step, run or print ended: it was carried out, or refused.
@@ -42,6 +45,7 @@ impl Cause {
             Cause::ShortMemory => 6,
             Cause::IllFormed => 7,
             Cause::ShortOutput => 8,
+            Cause::ZeroRegister => 9,
         }
     }
 }

@@ -16,18 +16,24 @@ use Rattle.labels.specs.Label.{labelCount}
 use Rattle.labels.proofs.Laws.{join-flows, flows-meet, raise-flows-old, raise-flows-new, relabel-flows-old, relabel-flows-new}
 use Rattle.model.specs.declared.Pair.{Pair}
 use Rattle.model.specs.declared.CallGate.{CallGate}
+use Rattle.model.specs.Numbers.{zeroRegister, registerCount}
 use Rattle.model.specs.Record.{State, Location, register, word, valueAt, labelAt, isEmpty, isGate, pairOf, newest, inUpcall}
 use Rattle.model.specs.WellFormed.{isValid}
 use Rattle.model.specs.Word.{Arithmetic, add, subtract, and, or, xor, less, multiply, Rule, raise, relabel, Op, immediate, arithmetic, load, store, branch, jump, readClock, setLabel, setPair, upcall, endUpcall, gateCall, gateReturn, halt, opField, aField, nField, decode, compute}
-use Rattle.model.specs.Ops.{Write, nothing, value, label, Change, write, goto, enter, openUpcall, openGate, closeGate, stop, Effect, does, ends, Row, allows, newPairAllowed, mayUpcall, mayCallGate, mayReturn, multiplyTicks, arithmeticTicks, noGate, isLabel, Ra, Rb, newPair, gate, table}
+use Rattle.model.specs.Ops.{writable, Write, nothing, value, label, Change, write, goto, enter, openUpcall, openGate, closeGate, stop, Effect, does, ends, Row, allows, newPairAllowed, mayUpcall, mayCallGate, mayReturn, multiplyTicks, arithmeticTicks, noGate, isLabel, Ra, Rb, newPair, gate, table}
 use Rattle.model.specs.Step.{known, fetchAllowed, fetch, Decision, rest, spend, stall, close, carry, endTick, finish, fault, passed, attempt, inTime, plan, beyondLimit, inLimit, running, decide}
 use Rattle.model.proofs.Ready.{_⊑_, Ready, register-value}
 use Rattle.model.proofs.Truth.{choice, and-iff, or-iff, or-true, not-iff, clash}
 
 -- A location is a register that exists, or a word below the size.
 abbrev pub Inside : State → Location → Type 0
-Inside s (register k) = k < 16
+Inside s (register k) = k < registerCount
 Inside s (word k) = k < s .fixed .size
+
+-- A location can be written: it isn't register 0.
+abbrev pub Writable : Location → Type 0
+Writable (register k) = zeroRegister < k
+Writable (word k) = Unit
 
 module _ (s : State) where
   -- The current pc label and timing label.
@@ -37,12 +43,13 @@ module _ (s : State) where
   abbrev timingLabel : ℕ
   timingLabel = s .control .pair .timing
 
-  -- A write under the pc label p: its location exists, p flows to the label that stands there and to the one that is set,
-  -- a value has 32 bits, and what is set as a label is one.
+  -- A write under the pc label p: its location exists and isn't register 0, p flows to the label that stands there and to
+  -- the one that is set, a value has 32 bits, and what is set as a label is one.
   pub data LegalWrite : Write → Type 0 where
     keeps : LegalWrite nothing
-    sets : {x : Location} {v : ℕ} → Inside s x → pcLabel ⊑ labelAt s x → v < 2 ^ 32 → LegalWrite (value x v)
-    marks : {x : Location} {l : ℕ} → Inside s x → pcLabel ⊑ labelAt s x → pcLabel ⊑ l → l < labelCount → LegalWrite (label x l)
+    sets : {x : Location} {v : ℕ} → Inside s x → Writable x → pcLabel ⊑ labelAt s x → v < 2 ^ 32 → LegalWrite (value x v)
+    marks : {x : Location} {l : ℕ} → Inside s x → Writable x → pcLabel ⊑ labelAt s x → pcLabel ⊑ l → l < labelCount
+        → LegalWrite (label x l)
 
   -- An upcall that keeps the end tick e under the new pair q, in so many ticks.
   pub record LegalUpcall (q : Pair) (e ticks : ℕ) : Type 0 where
@@ -98,6 +105,11 @@ bit-lt : (b : Bool) → cond b 1 0 < 2 ^ 32
 bit-lt true = lit< tt
 bit-lt false = lit< tt
 
+-- What passes for a register that can be written is one.
+pub writable-register : (k : ℕ) → writable k ≡ true → Writable (register k)
+unfolding writable
+writable-register k e = ltb-true zeroRegister k e
+
 -- What passes for a label is one.
 label-lt : (v : ℕ) → isLabel v ≡ true → v < labelCount
 unfolding isLabel
@@ -115,7 +127,7 @@ compute-lt less x y hx hy = bit-lt (ltb x y)
 compute-lt multiply x y hx hy = mod-lt _ (lit< tt)
 
 -- Every op takes at least a tick.
-ticks-long : (f : Arithmetic) (visible : Bool) (v : ℕ) → 1 ≤ arithmeticTicks f visible v
+pub ticks-long : (f : Arithmetic) (visible : Bool) (v : ℕ) → 1 ≤ arithmeticTicks f visible v
 unfolding multiplyTicks
 ticks-long add visible v = lit≤ tt
 ticks-long subtract visible v = lit≤ tt
@@ -152,10 +164,10 @@ module _ (s : State) (ready : Ready s) (w : ℕ) where
   unfolding aField
   a-inside = field-lt _
 
-  -- A value set in register a under a check that p flows to its label.
-  sets-a : {v ticks : ℕ} → pcLabel s ⊑ labelAt s (register (aField w)) → v < 2 ^ 32
+  -- A value set in register a under a check that it can be written and that p flows to its label.
+  sets-a : {v ticks : ℕ} → writable (aField w) ≡ true → pcLabel s ⊑ labelAt s (register (aField w)) → v < 2 ^ 32
       → LegalEffect s ticks (does (write (value (register (aField w)) v)))
-  sets-a h lt = carried (writes (sets a-inside h lt))
+  sets-a k h lt = carried (writes (sets a-inside (writable-register _ k) h lt))
 
   -- Ops 15 and 16: the rule implies that p flows to the old label and to the new one.
   allowed : (f : Rule) (p l m : ℕ) → allows f p l m ≡ true → (p ⊑ l) × (p ⊑ m)
@@ -165,38 +177,43 @@ module _ (s : State) (ready : Ready s) (w : ℕ) where
   -- Every row is legal.
   row-legal : (op : Op) → LegalRow s (table s w op)
   unfolding table newPairAllowed mayUpcall mayCallGate mayReturn
-  row-legal immediate = record { long = lit≤ tt; passes = λ e. sets-a (record { holds = e }) n-lt }
+  row-legal immediate =
+      record {
+        long = lit≤ tt;
+        passes = λ e. let h = simp and-iff at e in sets-a (h .1) (record { holds = h .0 }) n-lt;
+      }
   row-legal (arithmetic f) =
       record {
         long = ticks-long f _ _;
         passes = λ e. let h = simp (and-iff, join-flows) at e in
-            sets-a (record { holds = h .0 .0 }) (compute-lt f _ _ (reads _) (reads _));
+            sets-a (h .1) (record { holds = h .0 .0 .0 }) (compute-lt f _ _ (reads _) (reads _));
       }
   row-legal load =
       record {
         long = lit≤ tt;
         passes = λ e. let h = simp (and-iff, join-flows) at e in
-            sets-a (record { holds = h .1 .0 .0 }) (reads-word _ (ltb-true _ _ (h .0)));
+            sets-a (h .1) (record { holds = h .0 .1 .0 .0 }) (reads-word _ (ltb-true _ _ (h .0 .0)));
       }
   row-legal store =
       record {
         long = lit≤ tt;
         passes = λ e. let h = simp (and-iff, join-flows) at e in
-            carried (writes (sets (ltb-true _ _ (h .0)) (record { holds = h .1 .0 .0 }) (reads _)));
+            carried (writes (sets (ltb-true _ _ (h .0)) tt (record { holds = h .1 .0 .0 }) (reads _)));
       }
   row-legal (branch f) = record { long = lit≤ tt; passes = λ e. carried goes }
   row-legal jump = record { long = lit≤ tt; passes = λ e. carried goes }
   row-legal readClock =
       record {
         long = lit≤ tt;
-        passes = λ e. let h = simp (and-iff, join-flows) at e in sets-a (record { holds = h .0 }) (mod-lt _ (lit< tt));
+        passes = λ e. let h = simp (and-iff, join-flows) at e in
+            sets-a (h .1) (record { holds = h .0 .0 }) (mod-lt _ (lit< tt));
       }
   row-legal (setLabel f) =
       record {
         long = lit≤ tt;
         passes = λ e. let h = simp and-iff at e in
-            let r = allowed f _ _ _ (h .0 .1) in
-            carried (writes (marks a-inside (r .0) (r .1) (label-lt _ (h .0 .0))));
+            let r = allowed f _ _ _ (h .0 .0 .1) in
+            carried (writes (marks a-inside (writable-register _ (h .1)) (r .0) (r .1) (label-lt _ (h .0 .0 .0))));
       }
   row-legal setPair =
       record {

@@ -7,9 +7,9 @@ use mathlib.Core.Bool.{Bool, true, false, _&&_}
 use mathlib.Core.List.{List, [], _∷_, _++_}
 use native.Mathlib.Nat.{lt-of-lt-of-le}
 use native.Mathlib.Omega.{arith}
-use lib.Dec.{leb, ltb, lit<, lit≤}
+use lib.Dec.{leb, ltb, eqb, lit<, lit≤}
 use lib.ListN.{length, drop, replicate, length-set, length-append, length-replicate, getD-replicate, List·getD-append}
-use borrow.Author.Tests.{leb-true, ltb-true}
+use borrow.Author.Tests.{leb-true, ltb-true, eq-eqb}
 use Rattle.labels.specs.Label.{labelCount, lowest}
 use Rattle.labels.proofs.Constants.{lowest-number}
 use Rattle.causes.specs.declared.Cause.{Cause}
@@ -27,16 +27,18 @@ use Rattle.model.specs.declared.format.Line.the-variants.{M, G, R, W, Ma
 use Rattle.model.specs.declared.judging.Last.{Last}
 use Rattle.model.specs.declared.judging.Header.{Header}
 use Rattle.model.specs.Record.{Bank, Machine, State, machineOf, stateOf}
-use Rattle.model.specs.WellFormed.{isValid, endInRange, wellFormed, lentWhole}
+use Rattle.model.specs.WellFormed.{isValid, endInRange, zeroReads, wellFormed, lentWhole}
 use Rattle.model.specs.Numbers.{valueCount}
 use Rattle.model.specs.Inner.Typed.{Typed, Below, BankTyped, RegistersTyped}
-use Rattle.model.specs.Ops.{isLabel}
+use Rattle.model.specs.Ops.{writable, isLabel}
 use Rattle.model.specs.Step.{running, setValue}
 use Rattle.model.specs.Text.{lines}
 use Rattle.model.specs.Load.{machineOfHeader, withGate, withRegister, withEntry, withLine, headerInRange, gateInRange, entryInRange, headerTests, lineTests, behindHeader, lastOf, Verdict, refuse, accept, tried, judge, judgeHeader, judgeLines, judgeText, cleared, withWord, fill, settle, load}
 use Rattle.model.specs.Program.{stateOfLoad}
 use Rattle.model.proofs.Truth.{choice, and-iff, clash}
 use Rattle.model.proofs.Ready.{FixedFit, none, fit, fits, whole-lengths, whole-lent, Ready}
+use Rattle.model.proofs.Writes.{zero-left}
+use Rattle.model.proofs.Legal.{writable-register}
 use Rattle.model.proofs.Step.{value-typed, label-typed}
 
 -- ---- the state while the lines are read
@@ -61,6 +63,7 @@ record InOrder (r : Machine) (m : Bank) : Type 0 where
   fixed : FixedFit (r .fixed)
   started : Started (r .control)
   registers : RegistersTyped (r .registers)
+  zero : zeroReads (r .registers) ≡ true
   memory : Lent (r .fixed .size) m
 
 -- One more gate.
@@ -82,6 +85,7 @@ gate-in-order r m pc p t h e =
           };
       started = h .started;
       registers = h .registers;
+      zero = h .zero;
       memory = h .memory;
     }
 
@@ -92,12 +96,13 @@ unfolding isLabel
 entry-typed b k l v i j e f t =
     label-typed (setValue v b k) k l j (ltb-true l labelCount e) (value-typed b k v i (ltb-true v valueCount f) t)
 
--- One register set.
-register-in-order : (r : Machine) (m : Bank) (k l v : ℕ) → InOrder r m → entryInRange 16 k l v ≡ true
+-- One register set, that isn't register 0.
+register-in-order : (r : Machine) (m : Bank) (k l v : ℕ) → InOrder r m → entryInRange 16 k l v ≡ true → writable k ≡ true
     → InOrder (withRegister r k l v) m
-unfolding entryInRange
-register-in-order r m k l v h e =
+unfolding entryInRange zeroReads
+register-in-order r m k l v h e z =
     let q = simp and-iff at e in
+    let above = writable-register k z in
     let b = r .registers in
     let i : k < length (b .values) = rw (h .registers .values) (ltb-true k 16 (q .0 .0)) in
     let j : k < length (b .labels) = rw (h .registers .labels) (ltb-true k 16 (q .0 .0)) in
@@ -110,6 +115,7 @@ register-in-order r m k l v h e =
             values = length-set (b .values) k v ∙ h .registers .values;
             labels = length-set (b .labels) k l ∙ h .registers .labels;
           };
+      zero = rw (zero-left (b .values) k v above, zero-left (b .labels) k l above) (unfold zeroReads in h .zero);
       memory = h .memory;
     }
 
@@ -126,6 +132,7 @@ word-in-order r m k l v h e =
       fixed = h .fixed;
       started = h .started;
       registers = h .registers;
+      zero = h .zero;
       memory =
           record {
             numbers = entry-typed m k l v i j (q .0 .1) (q .1) (h .memory .numbers);
@@ -160,7 +167,7 @@ line-in-order : (r : Machine) (m : Bank) (last : Last) (l : Line)
 unfolding lineTests
 line-in-order r m last (M a b c d e f) q h = clash (q .0) refl
 line-in-order r m last (G pc p t) q h = gate-in-order r m pc p t h (q .1 .0)
-line-in-order r m last (R k l v) q h = register-in-order r m k l v h (q .1 .0)
+line-in-order r m last (R k l v) q h = register-in-order r m k l v h (q .1 .0) (q .1 .1 .1 .0)
 line-in-order r m last (W k l v) q h = word-in-order r m k l v h (q .1 .0)
 line-in-order r m last Malformed q h = clash (q .0) refl
 
@@ -222,6 +229,7 @@ header-in-order h m e v =
           };
       started = record { valid = v; clock = refl; first = refl; second = refl; end = refl; why = refl };
       registers = record { numbers = blank-typed 16 (record { values = []; labels = [] }); values = refl; labels = refl };
+      zero = unfold zeroReads in eq-eqb lowest lowest refl;
       memory =
           record {
             numbers = blank-typed (h .size) (record { values = drop (h .size) (m .values); labels = drop (h .size) (m .labels) });
@@ -256,6 +264,7 @@ in-order-loaded r m h =
             clock = rw (c .clock) zero-le;
             valid = c .valid;
             calls = rw (c .first, c .second) none;
+            zero = h .zero;
           });
       running = rw (c .end);
       clock = c .clock;
@@ -325,9 +334,13 @@ load-loaded text m =
 
 -- ---- memory that is never too short
 
--- The outcome is no refusal, or one of the causes 1 to 5.
+-- A cause other than short memory.
+abbrev Other : Cause → Type 0
+Other c = eqb (causeNumber c) (causeNumber ShortMemory) ≡ false
+
+-- The outcome is no refusal, or one of another cause.
 abbrev Early : Outcome → Type 0
-Early o = (c : Cause) → o ≡ Refused c → causeNumber c ≤ 5
+Early o = (c : Cause) → o ≡ Refused c → Other c
 
 -- The verdict doesn't refuse for short memory.
 abbrev NotShort : Verdict → Type 0
@@ -336,17 +349,17 @@ NotShort v = (n : ℕ) → v ≡ refuse ShortMemory n → ⊥
 -- Where a line's outcome is such, its verdict is where that of the lines behind it is.
 tried-not-short : (o : Outcome) (n : ℕ) (more : Verdict) → Early o → NotShort more → NotShort (tried o n more)
 tried-not-short Done n more f h = h
-tried-not-short (Refused c) n more f h = λ k e. let q : c ≡ ShortMemory = cc in omega (arith, f c refl, ap causeNumber q)
+tried-not-short (Refused c) n more f h = λ k e. let q : c ≡ ShortMemory = cc in clash refl (subst Other q (f c refl))
 
 -- The causes of a line behind the first.
 line-causes : (size count : ℕ) (last : Last) (l : Line)
-    → AllCauses (λ (c : Cause). causeNumber c ≤ 5) (lineTests size count last l)
+    → AllCauses Other (lineTests size count last l)
 unfolding lineTests
-line-causes size count last (M a b c d e f) = (omega arith, tt)
-line-causes size count last (G pc p t) = (omega arith, (omega arith, tt))
-line-causes size count last (R k l v) = (omega arith, (omega arith, (omega arith, tt)))
-line-causes size count last (W k l v) = (omega arith, (omega arith, (omega arith, tt)))
-line-causes size count last Malformed = (omega arith, tt)
+line-causes size count last (M a b c d e f) = (refl, tt)
+line-causes size count last (G pc p t) = (refl, (refl, tt))
+line-causes size count last (R k l v) = (refl, (refl, (refl, (refl, tt))))
+line-causes size count last (W k l v) = (refl, (refl, (refl, tt)))
+line-causes size count last Malformed = (refl, tt)
 
 judge-not-short : (r : Machine) (last : Last) (n : ℕ) (ls : List Line) → NotShort (judge r last n ls)
 unfolding judge
@@ -354,7 +367,7 @@ judge-not-short r last n [] = λ k e. refuse-accept (sym e)
 judge-not-short r last n (l ∷ ls) =
     let tests = lineTests (r .fixed .size) (r .fixed .count) last l in
     tried-not-short (firstRefusal tests) n _
-    (some-cause (λ (c : Cause). causeNumber c ≤ 5) tests (line-causes (r .fixed .size) (r .fixed .count) last l))
+    (some-cause Other tests (line-causes (r .fixed .size) (r .fixed .count) last l))
     (judge-not-short (withLine r l) (lastOf l) (n + 1) ls)
 
 -- The size of an M line in its ranges is at most 2,048.
@@ -362,9 +375,9 @@ header-size : (h : Header) → headerInRange h ≡ true → h .size ≤ 2048
 unfolding headerInRange
 header-size h e = let q = simp and-iff at e in leb-true (h .size) 2048 (q .0 .0 .0 .0 .0 .1)
 
--- A refusal by one of the causes 1 to 5.
-other : {c : Cause} {n k : ℕ} → causeNumber c ≤ 5 → refuse c n ≡ refuse ShortMemory k → ⊥
-other {c} h e = let q : c ≡ ShortMemory = cc in omega (arith, ap causeNumber q)
+-- A refusal by another cause.
+other : {c : Cause} {n k : ℕ} → Other c → refuse c n ≡ refuse ShortMemory k → ⊥
+other {c} h e = let q : c ≡ ShortMemory = cc in clash refl (subst Other q h)
 
 settle-not-short : (v : Verdict) (ls : List Line) (m : Bank) → NotShort v → settle v ls m .outcome ≡ Refused ShortMemory → ⊥
 settle-not-short (refuse c n) ls m h e = let q : c ≡ ShortMemory = cc in h n (rw q refl)
@@ -385,29 +398,29 @@ module _ (m : Bank) (words : 2048 ≤ length (m .values)) (labels : 2048 ≤ len
       choice Early (lentWhole (h .size) m) _ _
       (λ l c q. done-or-refused refl q)
       (λ l. clash (lent-enough h e) l))
-      (λ v. early InvalidPair (omega arith)))
-      (λ e. early OutOfRange (omega arith))
+      (λ v. early InvalidPair refl))
+      (λ e. early OutOfRange refl)
     where
-      early : (c : Cause) → causeNumber c ≤ 5 → Early (Refused c)
+      early : (c : Cause) → Other c → Early (Refused c)
       early c k d q = let p : c ≡ d = cc in rw (← p) k
 
   lines-not-short : (ls : List Line) → NotShort (judgeLines ls m)
   unfolding judgeHeader
-  lines-not-short [] = λ k e. other {c = MalformedLine} (omega arith) e
+  lines-not-short [] = λ k e. other {c = MalformedLine} refl e
   lines-not-short (M size errorpc pc p t limit ∷ ls) =
       let h : Header = record { size = size; errorpc = errorpc; pc = pc; p = p; t = t; limit = limit } in
       tried-not-short (firstRefusal (headerTests h m)) 1 _ (header-early h) (judge-not-short _ _ 2 ls)
-  lines-not-short (G a b c ∷ ls) = λ k e. other {c = MalformedLine} (omega arith) e
-  lines-not-short (R a b c ∷ ls) = λ k e. other {c = MalformedLine} (omega arith) e
-  lines-not-short (W a b c ∷ ls) = λ k e. other {c = MalformedLine} (omega arith) e
-  lines-not-short (Malformed ∷ ls) = λ k e. other {c = MalformedLine} (omega arith) e
+  lines-not-short (G a b c ∷ ls) = λ k e. other {c = MalformedLine} refl e
+  lines-not-short (R a b c ∷ ls) = λ k e. other {c = MalformedLine} refl e
+  lines-not-short (W a b c ∷ ls) = λ k e. other {c = MalformedLine} refl e
+  lines-not-short (Malformed ∷ ls) = λ k e. other {c = MalformedLine} refl e
 
   -- Into 2,048 words and labels no load is refused for short memory.
   pub load-not-short : (text : List ℕ) → load text m .outcome ≡ Refused ShortMemory → ⊥
   unfolding load judgeText
   load-not-short text =
       settle-not-short _ (lines text) m
-      (choice NotShort (leb 1 (length text) && leb (length text) 65535) _ _ (λ h. lines-not-short (lines text)) (λ h k e. other {c = TextLength} (omega arith) e))
+      (choice NotShort (leb 1 (length text) && leb (length text) 65535) _ _ (λ h. lines-not-short (lines text)) (λ h k e. other {c = TextLength} refl e))
 
 -- A loaded state is ready.
 pub loaded-ready : (s : State) → Loaded s → Ready s

@@ -1,5 +1,5 @@
--- The laws that the program's parts fit together: a load that is accepted is run without a refusal, and the state after
--- the run is printed unless the output is too short.
+-- The laws that the program's parts fit together: a load that is accepted is run without a refusal, the state after the
+-- run is printed unless the output is too short, and register 0 reads 0 throughout.
 -- Assumes nothing.
 use Prim.Native.Nat.{ℕ}
 use mathlib.Core.Path.{_≡_}
@@ -10,15 +10,17 @@ use lib.ListN.{length}
 use Rattle.causes.specs.declared.Cause.the-variants.{ShortOutput}
 use Rattle.causes.specs.declared.Outcome.the-variants.{Done}
 use Rattle.causes.specs.Tests.{unless}
-use Rattle.model.specs.Record.{Bank, State, machineOf}
+use Rattle.labels.specs.Label.{lowest}
+use Rattle.model.specs.Numbers.{zeroRegister}
+use Rattle.model.specs.Record.{Bank, State, register, valueAt, labelAt, machineOf}
 use Rattle.model.specs.WellFormed.{lentWhole}
-use Rattle.model.specs.Step.{run}
+use Rattle.model.specs.Step.{steps, run}
 use Rattle.model.specs.Answer.{answer, done, runAnswer}
 use Rattle.model.specs.Load.{load}
 use Rattle.model.specs.Listing.{listing, notPrinted, printed, print}
 use Rattle.model.specs.Program.{stateOfLoad}
-use Rattle.model.proofs.Ready.{fits, whole-lent, Ready}
-use Rattle.model.proofs.Run.{run-ready}
+use Rattle.model.proofs.Ready.{fits, whole-lent, Ready, zero-reads}
+use Rattle.model.proofs.Run.{steps-ready, run-ready}
 use Rattle.model.proofs.Load.{loaded-ready, load-loaded}
 
 -- A ready state's memory is lent whole.
@@ -44,3 +46,9 @@ load-ready text m e = loaded-ready (stateOfLoad (load text m)) (load-loaded text
 
 pub run-load-ready : (text : List ℕ) (m : Bank) → load text m .outcome ≡ Done → Ready (run (stateOfLoad (load text m)))
 run-load-ready text m e = run-ready (stateOfLoad (load text m)) (load-ready text m e)
+
+-- From an accepted load on, register 0 reads 0 with the lowest label, after any number of steps.
+pub always-zero : (text : List ℕ) (m : Bank) → load text m .outcome ≡ Done → (n : ℕ)
+    → (let s = steps n (stateOfLoad (load text m)) in
+    (valueAt s (register zeroRegister) ≡ 0) × (labelAt s (register zeroRegister) ≡ lowest))
+always-zero text m e n = zero-reads _ (steps-ready n (stateOfLoad (load text m)) (load-ready text m e))

@@ -9,17 +9,17 @@ use mathlib.Core.List.{List}
 use native.Mathlib.Omega.{arith}
 use lib.Dec.{ltb, lit<}
 use lib.ListN.{length, getD, List·getD-eq-default}
-use borrow.Author.Tests.{leb-true, le-leb, ltb-true, ltb-false, lt-ltb}
-use Rattle.labels.specs.Label.{principals}
+use borrow.Author.Tests.{leb-true, le-leb, ltb-true, ltb-false, lt-ltb, eqb-true}
+use Rattle.labels.specs.Label.{principals, lowest}
 use Rattle.labels.proofs.Laws.{Flows}
 use Rattle.model.specs.declared.Pair.{Pair}
 use Rattle.model.specs.declared.Fixed.{Fixed}
 use Rattle.model.specs.declared.Control.{Control}
 use Rattle.model.specs.declared.Call.{Call}
 use Rattle.model.specs.declared.Call.the-variants.{Empty, Gate, Upcall}
-use Rattle.model.specs.Record.{Bank, Machine, State, machineOf}
-use Rattle.model.specs.WellFormed.{isValid, fixedInRange, endInRange, upcallWellFormed, callsWellFormed, wellFormed, lentWhole}
-use Rattle.model.specs.Numbers.{valueCount}
+use Rattle.model.specs.Record.{Bank, Machine, State, register, valueAt, labelAt, machineOf}
+use Rattle.model.specs.WellFormed.{isValid, fixedInRange, endInRange, upcallWellFormed, callsWellFormed, zeroReads, wellFormed, lentWhole}
+use Rattle.model.specs.Numbers.{zeroRegister, valueCount}
 use Rattle.model.specs.Inner.Typed.{Below, Typed}
 use Rattle.model.proofs.Truth.{either, and-iff, clash}
 
@@ -60,6 +60,7 @@ pub record Fit (r : Machine) : Type 0 where
   pub clock : r .control .clock ≤ r .fixed .limit
   pub valid : isValid (r .control .pair) ≡ true
   pub calls : CallsFit (r .control .pair) (r .control .clock) (r .control .first) (r .control .second)
+  pub zero : zeroReads (r .registers) ≡ true
 
 fixed-fit : (f : Fixed) → fixedInRange f ≡ true → FixedFit f
 unfolding fixedInRange
@@ -116,17 +117,18 @@ unfolding wellFormed
 fit r e =
     let h = simp and-iff at e in
     record {
-      fixed = fixed-fit (r .fixed) (h .0 .0 .0 .0);
-      end = h .0 .0 .0 .1;
-      clock = leb-true (r .control .clock) (r .fixed .limit) (h .0 .0 .1);
-      valid = h .0 .1;
-      calls = calls-fit (r .control) (r .control .first) (r .control .second) (h .1);
+      fixed = fixed-fit (r .fixed) (h .0 .0 .0 .0 .0);
+      end = h .0 .0 .0 .0 .1;
+      clock = leb-true (r .control .clock) (r .fixed .limit) (h .0 .0 .0 .1);
+      valid = h .0 .0 .1;
+      calls = calls-fit (r .control) (r .control .first) (r .control .second) (h .0 .1);
+      zero = h .1;
     }
 
 -- A record that is well-formed in each respect passes the test.
 pub fits : (r : Machine) → Fit r → wellFormed r ≡ true
 unfolding wellFormed
-fits r h = rw (fixed-fits (h .fixed), h .end, le-leb _ _ (h .clock), h .valid, calls-fits (r .control) (h .calls))
+fits r h = rw (fixed-fits (h .fixed), h .end, le-leb _ _ (h .clock), h .valid, calls-fits (r .control) (h .calls), h .zero)
 
 -- ---- the memory that is lent
 
@@ -150,6 +152,12 @@ pub record Ready (s : State) : Type 0 where
   pub typed : Typed s
   pub words : s .fixed .size ≤ length (s .memory .values)
   pub labels : s .fixed .size ≤ length (s .memory .labels)
+
+-- Register 0 reads 0 with the lowest label.
+pub zero-reads : (s : State) → Ready s
+    → (valueAt s (register zeroRegister) ≡ 0) × (labelAt s (register zeroRegister) ≡ lowest)
+unfolding zeroReads valueAt labelAt
+zero-reads s r = let h = simp and-iff at (r .fit .zero) in (eqb-true _ _ (h .0), eqb-true _ _ (h .1))
 
 -- A list of n numbers below k, where 0 is one: whatever is read of it is below k.
 below-anywhere : {k n : ℕ} (xs : List ℕ) → length xs ≡ n → Below k n xs → 0 < k → (i : ℕ) → getD xs i 0 < k

@@ -16,15 +16,16 @@ use Rattle.labels.proofs.Laws.{flows-trans, valid-flows}
 use Rattle.model.specs.declared.Fixed.{Fixed}
 use Rattle.model.specs.declared.Control.{Control}
 use Rattle.model.specs.Record.{Bank, State, Location, register, word, labelAt, machineOf, newest, inUpcall}
+use Rattle.model.specs.WellFormed.{zeroReads}
 use Rattle.model.specs.Numbers.{registerCount, valueCount}
 use Rattle.model.specs.Inner.Typed.{Below, BankTyped}
 use Rattle.model.specs.Ops.{Write, value, label, Change, write, goto, enter, openUpcall, openGate, closeGate, stop}
 use Rattle.model.specs.Step.{Decision, rest, spend, stall, close, carry, endTick, finish, fetch, plan, beyondLimit, inLimit, running, decide, setValue, setLabelAt, written, causeAllowed, causeWrite, changeWrite, writeOf, changed, restored, controlAfter, apply, step}
 use Rattle.model.proofs.Truth.{choice, clash}
-use Rattle.model.proofs.Writes.{There, Lengths, lengths, set-at, written-lengths}
-use Rattle.model.proofs.Ready.{_⊑_, Fit, Ready}
+use Rattle.model.proofs.Writes.{There, Lengths, lengths, set-at, written-lengths, zero-left}
+use Rattle.model.proofs.Ready.{_⊑_, FixedFit, Fit, Ready}
 use Rattle.model.proofs.Legal.{Inside, LegalWrite, keeps, sets, marks, LegalChange, writes, goes, enters, calls, gates, returns, stops, Legal, rests, spends, stalls, closes, carries, legal}
-use Rattle.model.proofs.WellFormed.{top-upcall, step-fit, step-fixed, step-control}
+use Rattle.model.proofs.WellFormed.{top-upcall, decision-fit, step-fixed, step-control}
 
 -- ---- what a step writes
 
@@ -34,7 +35,7 @@ unfolding causeWrite causeAllowed
 cause-legal s cause f h =
     choice (LegalWrite s) (causeAllowed s) _ _
     (λ e. let k : s .control .pair .timing ⊑ labelAt s (register 15) = record { holds = e } in
-    sets (lit< tt) (flows-trans (valid-flows _ _ _ (f .valid)) k) (omega arith))
+    sets (lit< tt) (lit< tt) (flows-trans (valid-flows _ _ _ (f .valid)) k) (omega arith))
     (λ e. keeps)
 
 -- What a change writes is legal.
@@ -47,7 +48,7 @@ change-write s (gates h) = keeps
 change-write s (returns g p) = keeps
 change-write s (stops n) = keeps
 
--- What a decision writes is legal: its location exists, and p flows to the labels there.
+-- What a decision writes is legal: its location exists and isn't register 0, and p flows to the labels there.
 pub write-legal : (s : State) {d : Decision} → Fit (machineOf s) → Legal s d → LegalWrite s (writeOf s d)
 unfolding writeOf
 write-legal s f (rests r) = keeps
@@ -88,14 +89,23 @@ written-typed : (s : State) → Ready s → {w : Write} → LegalWrite s w
     → BankTyped registerCount (written s w .registers) × BankTyped (s .fixed .size) (written s w .memory)
 unfolding written
 written-typed s r keeps = (r .typed .registers .numbers, r .typed .memory)
-written-typed s r (sets {x = register k} {v = v} h p lt) =
+written-typed s r (sets {x = register k} {v = v} h z p lt) =
     (value-typed (s .registers) k v (there s r (register k) h .value) lt (r .typed .registers .numbers), r .typed .memory)
-written-typed s r (sets {x = word k} {v = v} h p lt) =
+written-typed s r (sets {x = word k} {v = v} h z p lt) =
     (r .typed .registers .numbers, value-typed (s .memory) k v (there s r (word k) h .value) lt (r .typed .memory))
-written-typed s r (marks {x = register k} {l = l} h p q lt) =
+written-typed s r (marks {x = register k} {l = l} h z p q lt) =
     (label-typed (s .registers) k l (there s r (register k) h .label) lt (r .typed .registers .numbers), r .typed .memory)
-written-typed s r (marks {x = word k} {l = l} h p q lt) =
+written-typed s r (marks {x = word k} {l = l} h z p q lt) =
     (r .typed .registers .numbers, label-typed (s .memory) k l (there s r (word k) h .label) lt (r .typed .memory))
+
+-- Register 0.
+written-zero : (s : State) {w : Write} → LegalWrite s w → zeroReads (written s w .registers) ≡ zeroReads (s .registers)
+unfolding written zeroReads
+written-zero s keeps = refl
+written-zero s (sets {x = register k} {v = v} h z p lt) = rw (zero-left (s .registers .values) k v z)
+written-zero s (sets {x = word k} h z p lt) = refl
+written-zero s (marks {x = register k} {l = l} h z p q lt) = rw (zero-left (s .registers .labels) k l z)
+written-zero s (marks {x = word k} h z p q lt) = refl
 
 -- Words and labels at or beyond the size.
 written-beyond : (s : State) {w : Write} → LegalWrite s w
@@ -103,10 +113,10 @@ written-beyond : (s : State) {w : Write} → LegalWrite s w
     × (drop (s .fixed .size) (written s w .memory .labels) ≡ drop (s .fixed .size) (s .memory .labels))
 unfolding written
 written-beyond s keeps = (refl, refl)
-written-beyond s (sets {x = register k} h p lt) = (refl, refl)
-written-beyond s (sets {x = word k} {v = v} h p lt) = (drop-set-lt _ (s .memory .values) k v h, refl)
-written-beyond s (marks {x = register k} h p l n) = (refl, refl)
-written-beyond s (marks {x = word k} {l = m} h p l n) = (refl, drop-set-lt _ (s .memory .labels) k m h)
+written-beyond s (sets {x = register k} h z p lt) = (refl, refl)
+written-beyond s (sets {x = word k} {v = v} h z p lt) = (drop-set-lt _ (s .memory .values) k v h, refl)
+written-beyond s (marks {x = register k} h z p l n) = (refl, refl)
+written-beyond s (marks {x = word k} {l = m} h z p l n) = (refl, drop-set-lt _ (s .memory .labels) k m h)
 
 -- What a step writes is legal.
 pub step-write : (s : State) → Ready s → LegalWrite s (writeOf s (decide s))
@@ -118,6 +128,20 @@ pub step-beyond : (s : State) → Ready s
     × (drop (s .fixed .size) (step s .memory .labels) ≡ drop (s .fixed .size) (s .memory .labels))
 unfolding step apply
 step-beyond s r = written-beyond s (step-write s r)
+
+-- A step of a well-formed record gives a well-formed record.
+step-fit : (s : State) → Ready s → Fit (machineOf (step s))
+unfolding step apply
+step-fit s r =
+    let c = decision-fit s (r .fit) (legal s r) in
+    record {
+      fixed = subst FixedFit (sym (step-fixed s)) (r .fit .fixed);
+      end = c .end;
+      clock = rw (step-fixed s) (c .clock);
+      valid = c .valid;
+      calls = c .calls;
+      zero = written-zero s (step-write s r) ∙ r .fit .zero;
+    }
 
 -- A step of a ready state gives a ready state.
 pub step-ready : (s : State) → Ready s → Ready (step s)

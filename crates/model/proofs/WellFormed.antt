@@ -1,23 +1,23 @@
--- Well-formed records: the definition's test taken apart, and the law that a step of a well-formed record gives one.
+-- Well-formed controls: what is asked of calls, kept, opened and closed; and the law that what a legal decision leaves of a
+-- well-formed record's control is well-formed.
 -- Assumes nothing.
 use Prim.Native.Nat.{ℕ, _+_, _≤_}
-use mathlib.Core.Path.{_≡_, refl, sym, ap, _∙_, subst, subst₂}
+use mathlib.Core.Path.{_≡_, refl, sym}
 use mathlib.Core.Bool.{true, false, cond}
 use native.Mathlib.Omega.{arith}
 use borrow.Author.Tests.{le-leb}
 use Rattle.labels.proofs.Laws.{flows-refl, flows-trans, valid-flows}
 use Rattle.model.specs.declared.Pair.{Pair}
-use Rattle.model.specs.declared.Fixed.{Fixed}
 use Rattle.model.specs.declared.Control.{Control}
 use Rattle.model.specs.declared.Call.{Call}
 use Rattle.model.specs.declared.Call.the-variants.{Empty, Gate, Upcall}
-use Rattle.model.specs.Record.{Machine, State, machineOf, newest, inUpcall, isEmpty, isGate, isUpcall, endTickOf, pairOf}
+use Rattle.model.specs.Record.{State, machineOf, newest, inUpcall, isEmpty, isGate, isUpcall, endTickOf, pairOf}
 use Rattle.model.specs.WellFormed.{isValid, endInRange}
 use Rattle.model.specs.Ops.{Change}
-use Rattle.model.specs.Step.{Decision, endTick, decide, writeOf, restored, changed, controlAfter, withControl, apply, step}
+use Rattle.model.specs.Step.{Decision, endTick, decide, writeOf, restored, changed, controlAfter, apply, step}
 use Rattle.model.proofs.Truth.{clash}
 use Rattle.model.proofs.Writes.{written-fixed}
-use Rattle.model.proofs.Ready.{_⊑_, FixedFit, UpcallFit, CallsFit, none, gate, upcall, both, Fit, Ready}
+use Rattle.model.proofs.Ready.{_⊑_, UpcallFit, CallsFit, none, gate, upcall, both, Fit}
 use Rattle.model.proofs.Legal.{LegalChange, writes, goes, enters, calls, gates, returns, stops, Legal, rests, spends, stalls, closes, carries, legal}
 
 -- The newest of two calls.
@@ -98,6 +98,13 @@ upcall-open Empty e = sym e
 upcall-open (Gate k q) e = refl
 upcall-open (Upcall k q t) e = refl
 
+-- What a well-formed record has of its control, under this limit.
+pub record ControlFit (limit : ℕ) (c : Control) : Type 0 where
+  pub end : endInRange c ≡ true
+  pub clock : c .clock ≤ limit
+  pub valid : isValid (c .pair) ≡ true
+  pub calls : CallsFit (c .pair) (c .clock) (c .first) (c .second)
+
 module _ (s : State) (f : Fit (machineOf s)) where
   -- The pair as it is flows to itself.
   stays : s .control .pair .pc ⊑ s .control .pair .pc
@@ -106,17 +113,16 @@ module _ (s : State) (f : Fit (machineOf s)) where
   -- The control after a change in so many ticks.
   change-fit : {ticks : ℕ} {c : Change} → s .control .clock + ticks ≤ s .fixed .limit
       → (inUpcall (s .control) ≡ true → s .control .clock + ticks ≤ endTick s) → LegalChange s ticks c
-      → Fit (machineOf (withControl s (changed (s .control) (s .control .clock + ticks) c)))
+      → ControlFit (s .fixed .limit) (changed (s .control) (s .control .clock + ticks) c)
   unfolding changed restored endInRange endTick inUpcall newest
   change-fit l u (writes h) =
-      record { fixed = f .fixed; end = f .end; clock = l; valid = f .valid; calls = calls-kept _ (f .calls) stays (flows-refl _ _) u }
+      record { end = f .end; clock = l; valid = f .valid; calls = calls-kept _ (f .calls) stays (flows-refl _ _) u }
   change-fit l u goes =
-      record { fixed = f .fixed; end = f .end; clock = l; valid = f .valid; calls = calls-kept _ (f .calls) stays (flows-refl _ _) u }
+      record { end = f .end; clock = l; valid = f .valid; calls = calls-kept _ (f .calls) stays (flows-refl _ _) u }
   change-fit l u (enters v p t) =
-      record { fixed = f .fixed; end = f .end; clock = l; valid = v; calls = calls-kept _ (f .calls) p t u }
+      record { end = f .end; clock = l; valid = v; calls = calls-kept _ (f .calls) p t u }
   change-fit l u (calls h) =
       record {
-        fixed = f .fixed;
         end = f .end;
         clock = l;
         valid = h .valid;
@@ -131,19 +137,18 @@ module _ (s : State) (f : Fit (machineOf s)) where
             });
       }
   change-fit l u (gates h) =
-      record { fixed = f .fixed; end = f .end; clock = l; valid = h .valid; calls = calls-gate _ (s .control .pair) _ _ (f .calls) (h .empty) (f .valid) }
+      record { end = f .end; clock = l; valid = h .valid; calls = calls-gate _ (s .control .pair) _ _ (f .calls) (h .empty) (f .valid) }
   change-fit l u (returns g p) =
-      record { fixed = f .fixed; end = f .end; clock = l; valid = top-valid (f .calls) (gate-open (newest (s .control)) g); calls = calls-closed _ _ (f .calls) }
+      record { end = f .end; clock = l; valid = top-valid (f .calls) (gate-open (newest (s .control)) g); calls = calls-closed _ _ (f .calls) }
   change-fit l u (stops n) =
-      record { fixed = f .fixed; end = refl; clock = l; valid = f .valid; calls = calls-kept _ (f .calls) stays (flows-refl _ _) u }
+      record { end = refl; clock = l; valid = f .valid; calls = calls-kept _ (f .calls) stays (flows-refl _ _) u }
 
   -- The control after a decision.
-  decision-fit : {d : Decision} → Legal s d → Fit (machineOf (withControl s (controlAfter s d)))
+  pub decision-fit : {d : Decision} → Legal s d → ControlFit (s .fixed .limit) (controlAfter s d)
   unfolding controlAfter restored endInRange endTick inUpcall newest
-  decision-fit (rests r) = f
+  decision-fit (rests r) = record { end = f .end; clock = f .clock; valid = f .valid; calls = f .calls }
   decision-fit (spends r h) =
       record {
-        fixed = f .fixed;
         end = refl;
         clock = omega arith;
         valid = f .valid;
@@ -153,7 +158,6 @@ module _ (s : State) (f : Fit (machineOf s)) where
       }
   decision-fit (stalls {why} r n a b) =
       record {
-        fixed = f .fixed;
         end = rw (le-leb 1 why a, le-leb why 3 b);
         clock = f .clock;
         valid = f .valid;
@@ -161,24 +165,12 @@ module _ (s : State) (f : Fit (machineOf s)) where
       }
   decision-fit (closes r u c l) =
       record {
-        fixed = f .fixed;
         end = f .end;
         clock = omega arith;
         valid = top-valid (f .calls) (upcall-open (newest (s .control)) u);
         calls = calls-closed _ _ (f .calls);
       }
   decision-fit (carries r long l u h) = change-fit l u h
-
--- Whether a record is well-formed does not go by its registers.
-same-fit : (r q : Machine) → r .fixed ≡ q .fixed → r .control ≡ q .control → Fit r → Fit q
-same-fit r q e c h =
-    record {
-      fixed = subst FixedFit e (h .fixed);
-      end = ap endInRange (sym c) ∙ h .end;
-      clock = subst₂ (λ (d : Control) (f : Fixed). d .clock ≤ f .limit) c e (h .clock);
-      valid = ap (λ (d : Control). isValid (d .pair)) (sym c) ∙ h .valid;
-      calls = subst (λ (d : Control). CallsFit (d .pair) (d .clock) (d .first) (d .second)) c (h .calls);
-    }
 
 -- A step keeps what no step changes.
 pub step-fixed : (s : State) → step s .fixed ≡ s .fixed
@@ -189,9 +181,3 @@ step-fixed s = written-fixed s (writeOf s (decide s))
 pub step-control : (s : State) → step s .control ≡ controlAfter s (decide s)
 unfolding step apply
 step-control s = refl
-
--- A step of a well-formed record gives a well-formed record.
-pub step-fit : (s : State) → Ready s → Fit (machineOf (step s))
-step-fit s r =
-    same-fit (machineOf (withControl s (controlAfter s (decide s)))) (machineOf (step s)) (sym (step-fixed s))
-    (sym (step-control s)) (decision-fit s (r .fit) (legal s r))

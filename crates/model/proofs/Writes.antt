@@ -5,10 +5,12 @@ use mathlib.Core.Path.{_≡_, refl, sym, subst}
 use mathlib.Core.Logic.{⊎-elim}
 use mathlib.Core.Bool.{Bool, false, cond}
 use mathlib.Core.List.{List}
+use native.Mathlib.Omega.{arith}
 use lib.Dec.{eqb}
 use lib.ListN.{getD, set, length, length-set}
 use lib.Seq.{getD-set-same, getD-set-other}
 use borrow.Author.Tests.{eqb-true, eqb-false}
+use Rattle.model.specs.Numbers.{zeroRegister}
 use Rattle.model.specs.Record.{State, Location, register, word, bankOf, indexOf, valueAt, labelAt}
 use Rattle.model.specs.Ops.{Write, nothing, value, label}
 use Rattle.model.specs.Step.{written}
@@ -33,6 +35,10 @@ set-at xs i j v h =
     (λ e. rw e (subst (λ (k : ℕ). getD (set xs i v) k 0 ≡ v) (eqb-true i j e) (getD-set-same xs i v 0 h)))
     (λ e. rw e (getD-set-other xs i j v 0 (λ q. eqb-false i j e (sym q))))
     (either (eqb i j))
+
+-- Where another number than register 0's is set, that one stays.
+pub zero-left : (xs : List ℕ) (k v : ℕ) → zeroRegister < k → getD (set xs k v) zeroRegister 0 ≡ getD xs zeroRegister 0
+zero-left xs k v h = getD-set-other xs k zeroRegister v 0 (λ q. omega (arith, h, q))
 
 -- A value that is set stands at its location alone.
 pub value-after-value : (s : State) (x y : Location) (v : ℕ) → There s x

@@ -2,11 +2,10 @@
 -- 6 to 8 of its table.
 -- Assumes nothing.
 use Prim.Native.Nat.{ℕ, zero, suc, _+_, _/_, _%_}
-use mathlib.Core.Bool.{Bool, not, _&&_, cond}
+use mathlib.Core.Bool.{Bool, not, cond}
 use mathlib.Core.List.{List, [], _∷_, _++_}
-use lib.Dec.{leb, ltb, eqb}
+use lib.Dec.{leb, ltb}
 use lib.ListN.{length, drop, getD}
-use Rattle.labels.specs.Label.{lowest}
 use Rattle.causes.specs.declared.Cause.{Cause}
 use Rattle.causes.specs.declared.Cause.the-variants.{ShortMemory, IllFormed, ShortOutput}
 use Rattle.causes.specs.declared.Outcome.{Outcome}
@@ -17,7 +16,7 @@ use Rattle.model.specs.declared.Control.{Control}
 use Rattle.model.specs.declared.Call.{Call}
 use Rattle.model.specs.declared.Call.the-variants.{Empty, Gate, Upcall}
 use Rattle.model.specs.Record.{Bank, Machine, State, stateOf}
-use Rattle.model.specs.WellFormed.{wellFormed, lentWhole}
+use Rattle.model.specs.WellFormed.{isBlank, wellFormed, lentWhole}
 use Rattle.model.specs.Numbers.{comma, lf, digitZero, letterE, letterF, letterR, letterW, gateKind, upcallKind, registerCount}
 
 -- ---- a line
@@ -62,7 +61,7 @@ headLines c = (line letterE (endFields c) ++ callLine (c .first)) ++ callLine (c
 
 -- An entry with this label and value has a line: it differs from value 0, label 240.
 unfoldable pub isListed : ℕ → ℕ → Bool
-isListed label value = not (eqb value 0 && eqb label lowest)
+isListed label value = not (isBlank label value)
 
 -- The R or W line of the entry k with this label and value, or nothing.
 unfoldable pub entryLine : ℕ → ℕ → ℕ → ℕ → List ℕ

@@ -1,5 +1,5 @@
--- Loading a text: document 01, "Text", its first paragraph, the refusals 1 to 6 of its table and their order. A refusal
--- leaves the lent words and labels; an accepted text sets all that lie below the size.
+-- Loading a text: document 01, "Text", its first paragraph, the refusals 1 to 6 of its table and their order; and 9, of
+-- register 0. A refusal leaves the lent words and labels; an accepted text sets all that lie below the size.
 -- Assumes nothing.
 use Prim.Native.Nat.{ℕ, _+_}
 use mathlib.Core.Bool.{Bool, false, not, _&&_, _||_}
@@ -8,7 +8,7 @@ use lib.Dec.{leb, ltb, eqb}
 use lib.ListN.{length, drop, set, replicate}
 use Rattle.labels.specs.Label.{lowest}
 use Rattle.causes.specs.declared.Cause.{Cause}
-use Rattle.causes.specs.declared.Cause.the-variants.{TextLength, MalformedLine, OutOfRange, OutOfOrder, InvalidPair, ShortMemory}
+use Rattle.causes.specs.declared.Cause.the-variants.{TextLength, MalformedLine, OutOfRange, OutOfOrder, InvalidPair, ShortMemory, ZeroRegister}
 use Rattle.causes.specs.declared.Outcome.{Outcome}
 use Rattle.causes.specs.declared.Outcome.the-variants.{Done, Refused}
 use Rattle.causes.specs.Tests.{unless, Test, _orElse_, firstRefusal}
@@ -22,7 +22,7 @@ use Rattle.model.specs.declared.judging.Last.{Last}
 use Rattle.model.specs.declared.judging.Header.{Header}
 use Rattle.model.specs.Record.{Bank, Machine}
 use Rattle.model.specs.WellFormed.{isValid, sizeInRange, limitInRange, lentWhole}
-use Rattle.model.specs.Ops.{isLabel, noGate}
+use Rattle.model.specs.Ops.{writable, isLabel, noGate}
 use Rattle.model.specs.Text.{lines}
 
 -- ---- the record that a text describes
@@ -113,8 +113,8 @@ headerTests h m =
     ∷ lentWhole (h .size) m orElse ShortMemory
     ∷ []
 
--- The tests of a line behind it, for a machine of this size with so many gates so far: 2, 4 (kind), 3, 4 (rising). No
--- second M line is in order.
+-- The tests of a line behind it, for a machine of this size with so many gates so far: 2, 4 (kind), 3, 4 (rising), 9
+-- (register 0). No second M line is in order.
 unfoldable pub lineTests : ℕ → ℕ → Last → Line → List Test
 lineTests size count last (M a b c d e f) = false orElse OutOfOrder ∷ []
 lineTests size count last (G pc p t) =
@@ -125,6 +125,7 @@ lineTests size count last (R k l v) =
     inOrder last RegisterLine orElse OutOfOrder
     ∷ entryInRange registerCount k l v orElse OutOfRange
     ∷ rising last RegisterLine k orElse OutOfOrder
+    ∷ writable k orElse ZeroRegister
     ∷ []
 lineTests size count last (W k l v) =
     inOrder last WordLine orElse OutOfOrder

@@ -20,6 +20,10 @@ mostGates = 8
 abbrev pub registerCount : ℕ
 registerCount = 16
 
+-- The register that always reads 0 with the lowest label.
+abbrev pub zeroRegister : ℕ
+zeroRegister = 0
+
 -- Values and pcs are below this number.
 abbrev pub valueCount : ℕ
 valueCount = 2 ^ 32

@@ -7,6 +7,7 @@ use lib.Count.{leadingZeros}
 use lib.Dec.{ltb, eqb}
 use lib.ListN.{getD}
 use Rattle.labels.specs.Label.{flows, join, meet, mayRaise, mayRelabel, labelCount}
+use Rattle.model.specs.Numbers.{zeroRegister}
 use Rattle.model.specs.declared.Pair.{Pair}
 use Rattle.model.specs.declared.CallGate.{CallGate}
 use Rattle.model.specs.Record.{State, Location, register, word, valueAt, labelAt, isEmpty, isGate, pairOf, newest, inUpcall}
@@ -61,6 +62,11 @@ abbrev pub strictRow : Bool → Effect → ℕ → Row
 strictRow check effect ticks = record { check = check; effect = effect; ticks = ticks; strict = true }
 
 -- ---- what the rows say
+
+-- A register can be written and relabelled: any but register 0. An op that would write or relabel that one only takes its
+-- ticks and adds 1 to the pc, as after a failed check.
+unfoldable pub writable : ℕ → Bool
+writable k = ltb zeroRegister k
 
 -- A label read from a register must be at most 255.
 unfoldable pub isLabel : ℕ → Bool
@@ -184,16 +190,19 @@ module _ (s : State) (w : ℕ) where
   -- The table: an op's check, effect and ticks. Two departures from the source: op 17 works at any depth, and the time of
   -- an upcall (op 18) starts after its own ticks.
   unfoldable pub table : Op → Row
-  table immediate = row (flows p La) (sets (nField w)) 1
+  table immediate = row (flows p La && writable (aField w)) (sets (nField w)) 1
   table (arithmetic f) =
-      row (flows (join (join p Lb) Lc) La) (sets (compute f Rb Rc)) (arithmeticTicks f (flows Lb t && flows Lc t) Rc)
-  table load = row (inMemory && flows (join (join p Lb) Lw) La) (sets (valueAt s (word Rb))) 3
+      row (flows (join (join p Lb) Lc) La && writable (aField w)) (sets (compute f Rb Rc))
+      (arithmeticTicks f (flows Lb t && flows Lc t) Rc)
+  table load =
+      row (inMemory && flows (join (join p Lb) Lw) La && writable (aField w)) (sets (valueAt s (word Rb))) 3
   table store = row (inMemory && flows (join (join p Lb) La) Lw) (does (write (value (word Rb) Ra))) 3
   table (branch f) = strictRow (flows (join La Lb) p) (does (goto (cond (holds f Ra Rb) (nField w) next))) 1
   table jump = strictRow (flows Lb p) (does (goto Rb)) 1
-  table readClock = row (flows (join p t) La) (sets (s .control .clock % 2 ^ 32)) 1
+  table readClock = row (flows (join p t) La && writable (aField w)) (sets (s .control .clock % 2 ^ 32)) 1
   table (setLabel f) =
-      row (isLabel Rb && allows f p La Rb && flows Lb p) (does (write (label (register (aField w)) Rb))) 2
+      row (isLabel Rb && allows f p La Rb && flows Lb p && writable (aField w))
+      (does (write (label (register (aField w)) Rb))) 2
   table setPair = row (newPairAllowed && flows p Rb && flows t Rc) (does (enter newPair)) 2
   table upcall = row mayUpcall (does (openUpcall Rd newPair (s .control .clock + 2 + Ra))) 2
   table endUpcall = row (inUpcall (s .control)) ends 1

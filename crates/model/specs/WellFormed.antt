@@ -3,9 +3,9 @@
 use Prim.Native.Nat.{ℕ, _^_}
 use mathlib.Core.Bool.{Bool, true, false, _&&_, cond}
 use lib.Dec.{leb, ltb, eqb}
-use lib.ListN.{length}
-use Rattle.labels.specs.Label.{flows, validPair}
-use Rattle.model.specs.Numbers.{mostWords, mostTicks, mostGates, stalled, unknownOp}
+use lib.ListN.{length, getD}
+use Rattle.labels.specs.Label.{flows, validPair, lowest}
+use Rattle.model.specs.Numbers.{mostWords, mostTicks, mostGates, zeroRegister, stalled, unknownOp}
 use Rattle.model.specs.declared.Pair.{Pair}
 use Rattle.model.specs.declared.Fixed.{Fixed}
 use Rattle.model.specs.declared.Control.{Control}
@@ -51,11 +51,20 @@ callsWellFormed c (Upcall k q e) Empty = upcallWellFormed c q e
 callsWellFormed c (Upcall k q e) (Gate k′ q′) = false
 callsWellFormed c (Upcall k q e) (Upcall k′ q′ e′) = false
 
--- The record is fit: the ranges hold, the clock is at most the limit, and the current pair and the calls are fit.
+-- A register or word is blank: value 0 and the lowest label.
+abbrev pub isBlank : ℕ → ℕ → Bool
+isBlank label value = eqb value 0 && eqb label lowest
+
+-- Register 0 always reads 0 with the lowest label.
+unfoldable pub zeroReads : Bank → Bool
+zeroReads b = isBlank (getD (b .labels) zeroRegister 0) (getD (b .values) zeroRegister 0)
+
+-- The record is fit: the ranges hold, the clock is at most the limit, the current pair and the calls are fit, and register
+-- 0 reads 0.
 unfoldable pub wellFormed : Machine → Bool
 wellFormed r =
     fixedInRange (r .fixed) && endInRange (r .control) && leb (r .control .clock) (r .fixed .limit) && isValid (r .control .pair)
-    && callsWellFormed (r .control) (r .control .first) (r .control .second)
+    && callsWellFormed (r .control) (r .control .first) (r .control .second) && zeroReads (r .registers)
 
 -- The lent words and the lent labels are each at least as long as the size.
 unfoldable pub lentWhole : ℕ → Bank → Bool

@@ -12,6 +12,9 @@ pub const MOST_GATES: u32 = 8;
 // How many registers there are.
 pub const REGISTER_COUNT: usize = 16;
 
+// The register that always reads 0 with the lowest label.
+pub const ZERO_REGISTER: usize = 0;
+
 // Values and pcs are below this number: 2^32.
 pub const VALUE_COUNT: u64 = 4294967296;
 

@@ -148,15 +148,15 @@ module _ (r : Machine) (m n : Bank) (a : Agree (r .fixed .size) m n) where
       → Agree (r .fixed .size) (written one w .memory) (written two w .memory)
   unfolding written
   written-agree x y z u keeps = a
-  written-agree x y z u (sets {x = register k} h p lt) = a
-  written-agree x y z u (sets {x = word k} {v = v} h p lt) =
+  written-agree x y z u (sets {x = register k} h o p lt) = a
+  written-agree x y z u (sets {x = word k} {v = v} h o p lt) =
       record {
         values = λ j g.
             rw (set-at (m .values) k j v (lt-of-lt-of-le h x), set-at (n .values) k j v (lt-of-lt-of-le h z), a .values j g);
         labels = a .labels;
       }
-  written-agree x y z u (marks {x = register k} h p l lt) = a
-  written-agree x y z u (marks {x = word k} {l = l} h p q lt) =
+  written-agree x y z u (marks {x = register k} h o p l lt) = a
+  written-agree x y z u (marks {x = word k} {l = l} h o p q lt) =
       record {
         values = a .values;
         labels = λ j g.

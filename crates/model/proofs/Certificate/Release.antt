@@ -17,12 +17,12 @@ use Rattle.model.specs.declared.Call.{Call}
 use Rattle.model.specs.declared.Call.the-variants.{Empty, Gate, Upcall}
 use Rattle.model.specs.Record.{State, Location, register, word, labelAt, isEmpty, isUpcall, newest, inUpcall}
 use Rattle.model.specs.Word.{Rule, raise, relabel, Op, immediate, arithmetic, load, store, branch, jump, readClock, setLabel, setPair, upcall, endUpcall, gateCall, gateReturn, halt, aField}
-use Rattle.model.specs.Ops.{Write, nothing, value, label, Change, write, goto, Effect, does, ends, Row, isLabel, allows, noGate, La, Lb, Rb, table}
+use Rattle.model.specs.Ops.{writable, Write, nothing, value, label, Change, write, goto, Effect, does, ends, Row, isLabel, allows, noGate, La, Lb, Rb, table}
 use Rattle.model.specs.Step.{Fetched, failed, fetched, fetch, Decision, rest, spend, stall, close, carry, fault, passed, attempt, plan, beyondLimit, inLimit, running, decide, isCarried, causeAllowed, causeWrite, changeWrite, writeOf, written, controlAfter, changed, step}
 use Rattle.model.specs.Seen.{within, exists}
 use Rattle.model.specs.Noninterference.{downgrades, callsGate, gateCallsIn, timedFromOutside, StepProvisos}
 use Rattle.model.specs.Certificate.{triesRelease, releases, attempts, leadsWithin, atLarge, breaks}
-use Rattle.model.proofs.Truth.{either, clash, and-three, or-iff}
+use Rattle.model.proofs.Truth.{either, clash, and-iff, and-three, or-iff}
 use Rattle.model.proofs.Writes.{same, label-after-label, label-after-value}
 use Rattle.model.proofs.Ready.{_⊑_, Ready}
 use Rattle.model.proofs.Legal.{LegalWrite, keeps, sets, marks, LegalChange, writes, goes, enters, calls, gates, returns, stops, Legal, rests, spends, stalls, closes, carries, legal}
@@ -114,7 +114,7 @@ module _ (s : State) where
             → writeOf s (attempt s (record { check = b; effect = does (write (label (register (aField w)) (Rb s w))); ticks = 2; strict = false })) ≡ label x l
             → Set s x l
         go true c d e =
-            record { word = w; rule = g; fetched = f; check = c; location = same-label e .0; label = same-label e .1; done = ap isCarried d }
+            record { word = w; rule = g; fetched = f; check = and-iff _ (writable (aField w)) .0 c .0; location = same-label e .0; label = same-label e .1; done = ap isCarried d }
         go false c d e = absurd (plain-label {w = nothing} tt e)
     set-op w setPair f d e = absurd (plain-label (plain-attempt (table s w setPair) tt) e)
     set-op w upcall f d e = absurd (plain-label (plain-attempt (table s w upcall) tt) e)
@@ -193,8 +193,8 @@ module _ (ℓ : ℕ) (s : State) (r : Ready s) (quiet : attempts ℓ s ≡ false
       → within ℓ (labelAt (written s w) y) ≡ false
   unfolding written
   label-kept e keeps y o = o
-  label-kept e (sets {x = x} {v = v} i h b) y o = ap (within ℓ) (label-after-value s x y v) ∙ o
-  label-kept e (marks {x = x} {l = l} i h k n) y o =
+  label-kept e (sets {x = x} {v = v} i z h b) y o = ap (within ℓ) (label-after-value s x y v) ∙ o
+  label-kept e (marks {x = x} {l = l} i z h k n) y o =
       ap (within ℓ) (label-after-label s x y l (there s r x i)) ∙ go (same x y) refl
     where
       go : (b : Bool) → same x y ≡ b → within ℓ (cond b l (labelAt s y)) ≡ false

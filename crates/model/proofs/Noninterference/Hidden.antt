@@ -39,14 +39,14 @@ outside-on ℓ h e = not-flows ℓ h e
 -- A legal write from outside is hidden.
 legal-hidden : (ℓ : ℕ) (s : State) {w : Write} → within ℓ (s .control .pair .pc) ≡ false → LegalWrite s w → Hidden ℓ s w
 legal-hidden ℓ s e keeps = sight.none
-legal-hidden ℓ s e (sets i h v) = sight.sets (outside-on ℓ h e)
-legal-hidden ℓ s e (marks i h k n) = sight.marks (outside-on ℓ h e) (outside-on ℓ k e)
+legal-hidden ℓ s e (sets i z h v) = sight.sets (outside-on ℓ h e)
+legal-hidden ℓ s e (marks i z h k n) = sight.marks (outside-on ℓ h e) (outside-on ℓ k e)
 
 -- A legal write is to a location that exists and is there.
 pub legal-fits : (s : State) → Ready s → {w : Write} → LegalWrite s w → Fits s w
 legal-fits s r keeps = sight.none
-legal-fits s r (sets {x = x} i h v) = sight.sets (there s r x i) (inside-exists s x i)
-legal-fits s r (marks {x = x} i h k n) = sight.marks (there s r x i) (inside-exists s x i)
+legal-fits s r (sets {x = x} i z h v) = sight.sets (there s r x i) (inside-exists s x i)
+legal-fits s r (marks {x = x} i z h k n) = sight.marks (there s r x i) (inside-exists s x i)
 
 -- What is seen of the locations does not go by the control.
 seen-control : (ℓ : ℕ) (s : State) (c : Control) (x : Location) → seenAt ℓ (withControl s c) x ≡ seenAt ℓ s x

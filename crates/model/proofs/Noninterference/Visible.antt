@@ -109,14 +109,14 @@ module _ {ℓ : ℕ} {c : Control} {a b : State} (h : Together ℓ c a b) (w : �
   row-equal (arithmetic f) e (sight.sets v) =
       let k = simp (and-iff, join-flows) at e in
       let la = seen-equal (h .alike) (register (aField w)) (a-exists one w) v in
-      let lb = equal (in-sight _ v) (register (bField w)) (b-exists one w) (k .0 .1) in
-      let lc = equal (in-sight _ v) (register (cField w)) (c-exists one w) (k .1) in
+      let lb = equal (in-sight _ v) (register (bField w)) (b-exists one w) (k .0 .0 .1) in
+      let lc = equal (in-sight _ v) (register (cField w)) (c-exists one w) (k .0 .1) in
       rw (la .0, lb .0, lb .1, lc .0, lc .1)
   row-equal load e (sight.sets v) =
       let k = simp (and-iff, join-flows) at e in
       let la = seen-equal (h .alike) (register (aField w)) (a-exists one w) v in
-      let lb = equal (in-sight _ v) (register (bField w)) (b-exists one w) (k .1 .0 .1) in
-      let lw = equal (in-sight _ v) (word (Rb one w)) (unfold exists in k .0) (k .1 .1) in
+      let lb = equal (in-sight _ v) (register (bField w)) (b-exists one w) (k .0 .1 .0 .1) in
+      let lw = equal (in-sight _ v) (word (Rb one w)) (unfold exists in k .0 .0) (k .0 .1 .1) in
       let size : a .fixed .size ≡ b .fixed .size = h .setting .size in
       rw (la .0, lw .0, lw .1, lb .0, lb .1, size)
   row-equal store e (sight.sets v) =
@@ -137,7 +137,7 @@ module _ {ℓ : ℕ} {c : Control} {a b : State} (h : Together ℓ c a b) (w : �
   row-equal (setLabel f) e (sight.marks v) =
       let k = simp and-iff at e in
       let la = seen-equal (h .alike) (register (aField w)) (a-exists one w) v in
-      let lb = equal (h .pc) (register (bField w)) (b-exists one w) (k .1) in
+      let lb = equal (h .pc) (register (bField w)) (b-exists one w) (k .0 .1) in
       rw (la .0, lb .0, lb .1)
   row-equal setPair e v =
       let k = simp and-iff at e in
@@ -475,12 +475,12 @@ no-downgrade ℓ s x l r i e p o =
 sighted : (ℓ : ℕ) (s : State) {w : Write} → Ready s → writeOf s (decide s) ≡ w → StepProvisos ℓ s (step s) → LegalWrite s w
     → Visible ℓ s w ⊎ Hidden ℓ s w
 sighted ℓ s r e p keeps = inr sight.none
-sighted ℓ s r e p (sets {x = x} i h v) =
+sighted ℓ s r e p (sets {x = x} i z h v) =
     ⊎-elim
     (λ (k : within ℓ (labelAt s x) ≡ true). inl (sight.sets k))
     (λ (k : within ℓ (labelAt s x) ≡ false). inr (sight.sets k))
     (either (within ℓ (labelAt s x)))
-sighted ℓ s r e p (marks {x = x} {l = l} i h v n) =
+sighted ℓ s r e p (marks {x = x} {l = l} i z h v n) =
     ⊎-elim
     (λ (k : within ℓ (labelAt s x) ≡ true). inl (sight.marks k))
     (λ (k : within ℓ (labelAt s x) ≡ false). inr (sight.marks k (no-downgrade ℓ s x l r i e p k)))
