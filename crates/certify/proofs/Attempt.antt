@@ -11,7 +11,7 @@ use borrow.Author.Tests.{leb-true, leb-false, eqb-true}
 use Rattle.labels.specs.Label.{flows}
 use Rattle.model.specs.Record.{State, register, valueAt, labelAt, inUpcall}
 use Rattle.model.specs.Word.{relabel, setLabel, opField, aField, decode}
-use Rattle.model.specs.Ops.{label, nothing, write, isLabel, allows, La, Lb, Rb, table}
+use Rattle.model.specs.Ops.{label, nothing, write, Rb, table}
 use Rattle.model.specs.Step.{fetched, fetch, carry, isCarried, endTick, attempt, running, decide}
 use Rattle.model.specs.Certificate.{triesRelease, attempts}
 use Rattle.model.proofs.Truth.{either, and-three}
@@ -34,7 +34,7 @@ ended-barred s e = rw e
 
 module _ (s : State) (w : ℕ) (f : fetch s ≡ fetched w (setLabel relabel)) where
   tried : attempt s (table s w (setLabel relabel))
-      ≡ carry 2 (write (cond (isLabel (Rb s w) && allows relabel (s .control .pair .pc) (La s w) (Rb s w) && flows (Lb s w) (s .control .pair .pc)) (label (register (aField w)) (Rb s w)) nothing))
+      ≡ carry 2 (write (cond (table s w (setLabel relabel) .check) (label (register (aField w)) (Rb s w)) nothing))
   unfolding table
   tried = attempt-write s _ _ 2
 

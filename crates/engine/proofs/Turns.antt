@@ -14,16 +14,18 @@ use lib.ListN.{getD, set}
 use Rattle.labels.specs.Label.{flows, join}
 use Rattle.model.specs.Numbers.{mostTicks}
 use Rattle.model.specs.Record.{State, register, word, valueAt, labelAt, inUpcall}
-use Rattle.model.specs.Word.{Arithmetic, Comparison, Op, immediate, arithmetic, load, store, branch, jump, readClock, setLabel, setPair, upcall, endUpcall, gateCall, gateReturn, halt, opField, aField, bField, cField, nField, decode, compute}
-use Rattle.model.specs.Ops.{arithmeticTicks, holds, Write, nothing, value, label, Change, write, goto, enter, openUpcall, openGate, closeGate, stop, Effect, does, ends, Row, row, strictRow, table}
+use Rattle.model.specs.Word.{Arithmetic, Comparison, Op, immediate, arithmetic, load, store, branch, jump, readClock, setLabel, setPair, upcall, endUpcall, gateCall, gateReturn, halt, opField, aField, bField, nField, decode}
+use Rattle.model.specs.Ops.{writable, holds, Write, nothing, value, label, Change, write, goto, enter, openUpcall, openGate, closeGate, stop, Effect, does, ends, Row, row, strictRow, table}
 use Rattle.model.specs.Step.{spend, close, carry, fetch, fetched, known, endTick, finish, attempt, inTime, plan, beyondLimit, inLimit, running, decide, written, writeOf, changed, controlAfter, apply, step}
 use Rattle.model.proofs.Truth.{either}
+use Rattle.model.proofs.Legal.{ticks-long}
 use Rattle.engine.specs.declared.steps.common.Stop.{Stop}
 use Rattle.engine.specs.declared.steps.common.Stop.the-variants.{Late, Failed}
 use Rattle.engine.specs.declared.steps.common.Turn.{Turn}
+use Rattle.engine.specs.declared.steps.common.Context.{Context}
 use Rattle.engine.specs.Skim.{isCommonOp, fetchesCommon, isCommon}
 use Rattle.engine.specs.Calls.{deadlineOf}
-use Rattle.engine.specs.Inner.Common.{going, stopping, timed, gone, Assigned, ReadWord, Stored, Gone, moving, Timed, lateOf, Stopped, Turned}
+use Rattle.engine.specs.Inner.Common.{going, stopping, timed, gone, Assigned, Combined, ReadWord, Stored, Gone, moving, Timed, lateOf, Stopped, Turned}
 use Rattle.engine.proofs.Numbers.{below-word, NoneBehind, behind}
 
 -- ---- truth values
@@ -234,18 +236,24 @@ module _ {s : State} {up : Bool} {deadline w : ℕ} {op : Op} (h : Timed s up de
   -- An op that sets register a.
   sets-row : {a : ℕ} {ok : Bool} {v k : ℕ} {r : Turn} {values words : List ℕ}
       → Assigned (s .registers .values) a ok v k (s .control .pc) (s .control .clock) deadline r values → 0 < k
-      → table s w op ≡ row ok (does (write (value (register a) v))) k → words ≡ s .memory .values → Turned s deadline r values words
+      → table s w op ≡ row (ok && writable a) (does (write (value (register a) v))) k → words ≡ s .memory .values
+      → Turned s deadline r values words
   sets-row {a} {ok} {v} {k} e p t ew =
-      turn h k (write (cond ok (value (register a) v) nothing)) f (common-row t tt) (rw t (attempt-write s ok (value (register a) v) k))
-      (s .control .pc + 1) _ _ p (apply-register s ok a v k) (e .turn) (e .values) (kept (leb (s .control .clock + k) deadline) ew)
+      let passes = ok && writable a in
+      turn h k (write (cond passes (value (register a) v) nothing)) f (common-row t tt)
+      (rw t (attempt-write s passes (value (register a) v) k)) (s .control .pc + 1) _ _ p (apply-register s passes a v k) (e .turn)
+      (e .values) (kept (leb (s .control .clock + k) deadline) ew)
 
   -- An op that does so with word x.
   loads-row : {a x p lb la size : ℕ} {r : Turn} {values words : List ℕ}
       → ReadWord (s .registers .values) (s .memory .values) (s .memory .labels) a x p lb la size (s .control .pc) (s .control .clock) deadline r values
       → table s w op
-      ≡ row (ltb x size && flows (join (join p lb) (getD (s .memory .labels) x 0)) la) (does (write (value (register a) (getD (s .memory .values) x 0)))) 3
+      ≡ row (ltb x size && flows (join (join p lb) (getD (s .memory .labels) x 0)) la && writable a)
+      (does (write (value (register a) (getD (s .memory .values) x 0)))) 3
       → words ≡ s .memory .values → Turned s deadline r values words
-  loads-row e t ew = sets-row (record { turn = e .turn; values = e .values }) (omega arith) t ew
+  loads-row {x = x} {p = p} {lb = lb} {la = la} {size = size} e t ew =
+      sets-row {ok = ltb x size && flows (join (join p lb) (getD (s .memory .labels) x 0)) la}
+      (record { turn = e .turn; values = e .values }) (omega arith) t ew
 
   -- An op that sets word x.
   stores-row : {x v p lb la size : ℕ} {r : Turn} {values words : List ℕ}
@@ -301,10 +309,9 @@ module _ {s : State} {up : Bool} {deadline w : ℕ} {op : Op} (h : Timed s up de
 -- ---- the common ops, by the numbers of their registers
 
 -- These numbers stand in the word.
-pub record Fields (w a b c : ℕ) : Type 0 where
+pub record Fields (w a b : ℕ) : Type 0 where
   pub ra : a ≡ aField w
   pub rb : b ≡ bField w
-  pub rc : c ≡ cField w
 
 -- The value and the label of register k.
 abbrev valueOf : State → ℕ → ℕ
@@ -313,23 +320,22 @@ valueOf s k = getD (s .registers .values) k 0
 abbrev labelOf : State → ℕ → ℕ
 labelOf s k = getD (s .registers .labels) k 0
 
-module _ {s : State} {up : Bool} {deadline w a b c : ℕ} (h : Timed s up deadline) (i : Fields w a b c) {r : Turn} where
+-- Ops 2 to 8.
+pub arithmetic-turn : {s : State} {up : Bool} {w : ℕ} {o : Arithmetic} (c : Context) → Timed s up (c .deadline)
+    → fetch s ≡ fetched w (arithmetic o) → c .p ≡ s .control .pair .pc → c .t ≡ s .control .pair .timing
+    → {r : Turn} {values words : List ℕ}
+    → Combined o (s .registers .values) (s .registers .labels) c w (s .control .pc) (s .control .clock) r values
+    → words ≡ s .memory .values → Turned s (c .deadline) r values words
+unfolding table valueAt labelAt
+arithmetic-turn {o = o} c h f p t e ew = sets-row h f e (ticks-long o _ _) (rw (p, t)) ew
+
+module _ {s : State} {up : Bool} {deadline w a b : ℕ} (h : Timed s up deadline) (i : Fields w a b) {r : Turn} where
   -- Op 1.
   pub immediate-turn : fetch s ≡ fetched w immediate → {ok : Bool} {v : ℕ} {values words : List ℕ}
       → Assigned (s .registers .values) a ok v 1 (s .control .pc) (s .control .clock) deadline r values
       → ok ≡ flows (s .control .pair .pc) (labelOf s a) → v ≡ nField w → words ≡ s .memory .values → Turned s deadline r values words
   unfolding table labelAt
   immediate-turn f e eo ev ew = sets-row h f e (omega arith) (rw (eo, ev, i .ra)) ew
-
-  -- Ops 2 to 8: register a gets v, computed from the registers b and c.
-  pub arithmetic-turn : {o : Arithmetic} → fetch s ≡ fetched w (arithmetic o) → {v k : ℕ} {values words : List ℕ}
-      → Assigned (s .registers .values) a (flows (join (join (s .control .pair .pc) (labelOf s b)) (labelOf s c)) (labelOf s a)) v k
-      (s .control .pc) (s .control .clock) deadline r values
-      → 0 < k → v ≡ compute o (valueOf s b) (valueOf s c)
-      → k ≡ arithmeticTicks o (flows (labelOf s b) (s .control .pair .timing) && flows (labelOf s c) (s .control .pair .timing)) (valueOf s c)
-      → words ≡ s .memory .values → Turned s deadline r values words
-  unfolding table valueAt labelAt
-  arithmetic-turn f e p ev ek ew = sets-row h f e p (rw (ev, ek, i .ra, i .rb, i .rc)) ew
 
   -- Op 9.
   pub load-turn : fetch s ≡ fetched w load → {values words : List ℕ}

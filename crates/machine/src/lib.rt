@@ -9,12 +9,13 @@ use model::Fixed;
 use model::Pair;
 use model::numbers::MOST_GATES;
 use model::numbers::REGISTER_COUNT;
+use model::numbers::ZERO_REGISTER;
 use wellformed::calls_well_formed;
 use wellformed::end_in_range;
 use wellformed::fixed_in_range;
 ghost use mathlib.Core.Path.{_≡_};
 ghost use Rattle.model.specs.Record.{lent};
-ghost use Rattle.model.specs.WellFormed.{wellFormed, lentWhole};
+ghost use Rattle.model.specs.WellFormed.{isBlank, wellFormed, lentWhole};
 ghost use Rattle.model.specs.Load.{machineOfHeader};
 ghost use Rattle.machine.specs.Answered.{recordOf};
 
@@ -35,6 +36,13 @@ pub fn is_lent_whole(size: u32, words: &[u32], labels: &[u8]) -> bool
 {
     let count = size as usize;
     (count <= words.len()) & (count <= labels.len())
+}
+
+// Whether a register or word has value 0 and the lowest label.
+pub fn is_blank(label: u8, value: u32) -> bool
+    ensures { λ r. ⌜ r ≡ isBlank label value ⌝ }
+{
+    (value == 0) & Label(label).is_lowest()
 }
 
 // What a call answers.
@@ -89,10 +97,13 @@ impl Machine {
         let pair = control.pair;
         let first = control.first;
         let second = control.second;
+        let values = self.values;
+        let labels = self.labels;
         fixed_in_range(fixed.size, fixed.limit, fixed.count)
             & end_in_range(control.end, control.why)
             & (control.clock <= fixed.limit)
             & Label(pair.pc).is_valid_pair(Label(pair.timing))
             & calls_well_formed(pair.pc, pair.timing, control.clock, first, second)
+            & is_blank(labels[ZERO_REGISTER], values[ZERO_REGISTER])
     }
 }

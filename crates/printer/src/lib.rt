@@ -2,8 +2,8 @@
 // before it ended. The length is known before the first byte is written, so a refusal leaves the output as it was.
 use causes::Cause;
 use causes::Outcome;
-use labels::Label;
 use machine::Machine;
+use machine::is_blank;
 use machine::is_lent_whole;
 use model::Call;
 use model::Control;
@@ -217,5 +217,5 @@ fn write_entry(out: &mut [u8], at: usize, letter: u8, k: usize, label: u8, value
 fn is_listed(label: u8, value: u32) -> bool
     ensures { λ r. ⌜ r ≡ isListed label value ⌝ }
 {
-    !((value == 0) & Label(label).is_lowest())
+    !is_blank(label, value)
 }

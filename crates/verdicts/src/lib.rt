@@ -14,7 +14,7 @@ ghost use lib.ListN.{length};
 ghost use Rattle.causes.specs.Tests.{firstRefusal};
 ghost use Rattle.model.specs.Record.{Bank};
 ghost use Rattle.model.specs.Load.{headerInRange, gateInRange, entryInRange, rank, inOrder, rising, headerTests, lineTests, lastOf};
-ghost use Rattle.verdicts.specs.Inner.Verdicts.{gateTests, entryTests};
+ghost use Rattle.verdicts.specs.Inner.Verdicts.{gateTests, entryTests, registerTests};
 
 // The most words of a machine.
 const MOST_WORDS: u64 = numbers::MOST_WORDS as u64;
@@ -27,6 +27,9 @@ const LABEL_COUNT: u64 = labels::LABEL_COUNT as u64;
 
 // How many registers there are.
 const REGISTER_COUNT: u32 = numbers::REGISTER_COUNT as u32;
+
+// The register that no line sets.
+const ZERO_REGISTER: u64 = numbers::ZERO_REGISTER as u64;
 
 // What the line behind the M line is tried against.
 pub const BEHIND_HEADER: Last = Last {
@@ -136,6 +139,21 @@ fn entry_verdict(kind: Kind, bound: u32, last: Last, k: u64, label: u64, value: 
     Outcome::Done
 }
 
+// The verdict on an R line: that of its entry, and then whether it is for register 0.
+fn register_verdict(last: Last, k: u64, label: u64, value: u64) -> Outcome
+    ensures { λ r. ⌜ r ≡ firstRefusal (registerTests last k label value) ⌝ }
+{
+    let entry = entry_verdict(Kind::RegisterLine, REGISTER_COUNT, last, k, label, value);
+    let Outcome::Done = entry else {
+        return entry;
+    };
+    if ZERO_REGISTER < k {
+        Outcome::Done
+    } else {
+        Outcome::Refused(Cause::ZeroRegister)
+    }
+}
+
 // The verdict on a line behind the first, for a machine of this size with so many gates.
 pub fn line_verdict(size: u32, count: u32, last: Last, line: Line) -> Outcome
     ensures { λ r. ⌜ r ≡ firstRefusal (lineTests size count last line) ⌝ }
@@ -143,14 +161,7 @@ pub fn line_verdict(size: u32, count: u32, last: Last, line: Line) -> Outcome
     match line {
         Line::M(_, _, _, _, _, _) => Outcome::Refused(Cause::OutOfOrder),
         Line::G(pc, p, t) => gate_verdict(count, last, pc, p, t),
-        Line::R(k, label, value) => entry_verdict(
-            Kind::RegisterLine,
-            REGISTER_COUNT,
-            last,
-            k,
-            label,
-            value,
-        ),
+        Line::R(k, label, value) => register_verdict(last, k, label, value),
         Line::W(k, label, value) => entry_verdict(Kind::WordLine, size, last, k, label, value),
         Line::Malformed => Outcome::Refused(Cause::MalformedLine),
     }

@@ -9,15 +9,29 @@ use lib.Dec.{leb, ltb}
 use lib.ListN.{getD, set}
 use Rattle.labels.specs.Label.{flows, join}
 use Rattle.model.specs.Record.{State, inUpcall}
-use Rattle.model.specs.Word.{opField, decode}
+use Rattle.model.specs.Word.{Arithmetic as Computation, add, subtract, and, or, xor, less, multiply, opField, aField, bField, cField, decode, compute}
+use Rattle.model.specs.Ops.{writable, arithmeticTicks}
 use Rattle.model.specs.Step.{Decision, close, spend, failed, fetch, known, endTick, plan, inLimit, decide, step, moved}
 use Rattle.engine.specs.declared.steps.common.Stop.{Stop}
 use Rattle.engine.specs.declared.steps.common.Stop.the-variants.{Out, Late, Outside, Unreadable, Failed, Rest}
 use Rattle.engine.specs.declared.steps.common.Turn.{Turn}
+use Rattle.engine.specs.declared.steps.common.Context.{Context}
+use Rattle.engine.specs.declared.steps.common.Arithmetic.{Arithmetic}
+use Rattle.engine.specs.declared.steps.common.Arithmetic.the-variants.{Add, Subtract, And, Or, Xor, Less, Multiply}
 use Rattle.engine.specs.Skim.{fetchesCommon, isCommon}
 use Rattle.engine.specs.Calls.{deadlineOf}
 
 -- ---- what the leaves answer
+
+-- The model's op that an arithmetic op of the code is.
+abbrev pub arithmeticOf : Arithmetic → Computation
+arithmeticOf Add = add
+arithmeticOf Subtract = subtract
+arithmeticOf And = and
+arithmeticOf Or = or
+arithmeticOf Xor = xor
+arithmeticOf Less = less
+arithmeticOf Multiply = multiply
 
 -- The turn did a step.
 abbrev pub going : ℕ → ℕ → Turn
@@ -41,17 +55,27 @@ gone ok target up pc clock deadline =
 pub record Gone (ok : Bool) (target : ℕ) (up : Bool) (pc clock deadline : ℕ) (r : Turn) : Type 0 where
   pub turn : r ≡ gone ok target up pc clock deadline
 
--- Register a got v if the op finishes by the deadline and the check passed.
+-- Register a got v if the op finishes by the deadline, the check passed and it isn't register 0.
 pub record Assigned (before : List ℕ) (a : ℕ) (ok : Bool) (v ticks pc clock deadline : ℕ) (r : Turn) (after : List ℕ) : Type 0 where
   pub turn : r ≡ timed ticks (pc + 1) pc clock deadline
-  pub values : after ≡ cond (leb (clock + ticks) deadline) (cond ok (set before a v) before) before
+  pub values : after ≡ cond (leb (clock + ticks) deadline) (cond (ok && writable a) (set before a v) before) before
 
--- Register a got word x if the op finishes by the deadline and the check of op 9 passed.
+-- Ops 2 to 8 at the word w: register a got what f computes from the registers b and c, as the model's row has it.
+abbrev pub Combined : Computation → List ℕ → List ℕ → Context → ℕ → ℕ → ℕ → Turn → List ℕ → Type 0
+Combined f before labels context w pc clock r after =
+    let x = getD before (bField w) 0 in
+    let y = getD before (cField w) 0 in
+    let lb = getD labels (bField w) 0 in
+    let lc = getD labels (cField w) 0 in
+    Assigned before (aField w) (flows (join (join (context .p) lb) lc) (getD labels (aField w) 0)) (compute f x y)
+    (arithmeticTicks f (flows lb (context .t) && flows lc (context .t)) y) pc clock (context .deadline) r after
+
+-- Register a got word x if the op finishes by the deadline, the check of op 9 passed and it isn't register 0.
 pub record ReadWord (before words marks : List ℕ) (a x p lb la size pc clock deadline : ℕ) (r : Turn) (after : List ℕ) : Type 0 where
   pub turn : r ≡ timed 3 (pc + 1) pc clock deadline
   pub values :
       after ≡ cond (leb (clock + 3) deadline)
-      (cond (ltb x size && flows (join (join p lb) (getD marks x 0)) la) (set before a (getD words x 0)) before)
+      (cond (ltb x size && flows (join (join p lb) (getD marks x 0)) la && writable a) (set before a (getD words x 0)) before)
       before
 
 -- Word x got v if the op finishes by the deadline and the check of op 10 passed.

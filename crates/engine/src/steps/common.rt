@@ -9,6 +9,7 @@ use crate::word::n_of;
 use crate::word::op_of;
 use labels::Label;
 use model::numbers::REGISTER_COUNT;
+use model::numbers::ZERO_REGISTER;
 ghost use Prim.Native.Nat.{_+_, _*_, _%_, _^_, _≤_, _<_};
 ghost use mathlib.Core.Path.{_≡_};
 ghost use mathlib.Core.Bool.{cond, _&&_};
@@ -17,8 +18,8 @@ ghost use lib.ListN.{length, getD, set};
 ghost use Rattle.labels.specs.Label.{flows, join};
 ghost use Rattle.model.specs.Numbers.{mostWords, mostTicks, registerCount};
 ghost use Rattle.model.specs.Word.{nField, compute, add, subtract, less as lessThan, multiply};
-ghost use Rattle.model.specs.Ops.{multiplyTicks};
-ghost use Rattle.engine.specs.Inner.Common.{going, stopping, Gone, Assigned, ReadWord, Stored, Common};
+ghost use Rattle.model.specs.Ops.{writable, multiplyTicks, arithmeticTicks};
+ghost use Rattle.engine.specs.Inner.Common.{arithmeticOf, going, stopping, Gone, Assigned, Combined, ReadWord, Stored, Common};
 ghost use Rattle.engine.specs.Inner.Sprint.{Sprinted};
 
 // Why the hot loop stopped.
@@ -43,6 +44,17 @@ pub struct Turn {
     pub pc: u32,
     pub clock: u32,
     pub stop: Stop,
+}
+
+// The ops 2 to 8.
+pub enum Arithmetic {
+    Add,
+    Subtract,
+    And,
+    Or,
+    Xor,
+    Less,
+    Multiply,
 }
 
 // What stays the same while the hot loop runs: the size, the pc label and the timing label, whether an upcall is open, and
@@ -139,6 +151,36 @@ fn multiply_ticks(visible: bool, y: u32) -> u32
     }
 }
 
+// What an arithmetic op computes.
+fn compute(f: Arithmetic, x: u32, y: u32) -> u32
+    ensures { λ r. ⌜ r ≡ compute (arithmeticOf f) x y ⌝ }
+{
+    match f {
+        Arithmetic::Add => plus(x, y),
+        Arithmetic::Subtract => minus(x, y),
+        Arithmetic::And => x & y,
+        Arithmetic::Or => x | y,
+        Arithmetic::Xor => x ^ y,
+        Arithmetic::Less => less(x, y),
+        Arithmetic::Multiply => product(x, y),
+    }
+}
+
+// Its ticks at the second operand y, where both operands' labels flow to the timing label or not.
+fn ticks_of(f: Arithmetic, visible: bool, y: u32) -> u32
+    ensures { λ r. ⌜ (r ≡ arithmeticTicks (arithmeticOf f) visible y) × (r ≤ 10) ⌝ }
+{
+    match f {
+        Arithmetic::Add => 1,
+        Arithmetic::Subtract => 1,
+        Arithmetic::And => 1,
+        Arithmetic::Or => 1,
+        Arithmetic::Xor => 1,
+        Arithmetic::Less => 1,
+        Arithmetic::Multiply => multiply_ticks(visible, y),
+    }
+}
+
 // Where a branch goes on.
 fn pick(taken: bool, target: u32, pc: u32) -> u32
     requires { ⌜ pc < mostWords ⌝ }
@@ -147,12 +189,12 @@ fn pick(taken: bool, target: u32, pc: u32) -> u32
     if taken { target } else { pc + 1 }
 }
 
-// Register a gets v if the check passed.
+// Register a gets v if the check passed, and it isn't register 0.
 fn put(values: &mut [u32; REGISTER_COUNT], a: usize, ok: bool, v: u32)
     requires { ⌜ a < registerCount ⌝ }
-    ensures { λ r. ⌜ now (values .exit) ≡ cond ok (set (now (values .entry)) a v) (now (values .entry)) ⌝ }
+    ensures { λ r. ⌜ now (values .exit) ≡ cond (ok && writable a) (set (now (values .entry)) a v) (now (values .entry)) ⌝ }
 {
-    if ok {
+    if ok & (ZERO_REGISTER < a) {
         values[a] = v;
     }
 }
@@ -178,24 +220,30 @@ fn assign(
     stopping(Stop::Late, pc, clock)
 }
 
-// Ops 2 to 8: register a gets v if their check passes.
+// What ops 2 to 8 compute from the registers b and c goes into register a, if their check passes.
 fn combine(
+    f: Arithmetic,
     values: &mut [u32; REGISTER_COUNT],
+    labels: &[u8; REGISTER_COUNT],
     context: Context,
-    a: usize,
-    la: u8,
-    lb: u8,
-    lc: u8,
-    v: u32,
-    ticks: u32,
+    w: u32,
     pc: u32,
     clock: u32,
 ) -> Turn
-    requires { ⌜ (a < registerCount) × (ticks ≤ 10) × (pc < mostWords) × (clock ≤ mostTicks) ⌝ }
-    ensures { λ r. ⌜ Assigned (now (values .entry)) a (flows (join (join (context .p) lb) lc) la) v ticks pc clock (context .deadline) r (now (values .exit)) ⌝ }
+    requires { ⌜ (pc < mostWords) × (clock ≤ mostTicks) ⌝ }
+    ensures { λ r. ⌜ Combined (arithmeticOf f) (now (values .entry)) (now (labels .entry)) context w pc clock r (now (values .exit)) ⌝ }
 {
-    let ok = three_flow(context.p, lb, lc, la);
-    assign(values, context, a, ok, v, ticks, pc, clock)
+    let a = a_of(w);
+    let b = b_of(w);
+    let c = c_of(w);
+    let x = values[b];
+    let y = values[c];
+    let lb = labels[b];
+    let lc = labels[c];
+    let t = context.t;
+    let ok = three_flow(context.p, lb, lc, labels[a]);
+    let ticks = ticks_of(f, one_flows(lb, t) & one_flows(lc, t), y);
+    assign(values, context, a, ok, compute(f, x, y), ticks, pc, clock)
 }
 
 // A branch or jump: it goes on at `target` if the check passed. In an upcall a failed check stops the loop.
@@ -304,33 +352,36 @@ fn common(
 {
     let a = a_of(w);
     let b = b_of(w);
-    let c = c_of(w);
     let x = values[b];
-    let y = values[c];
-    let la = labels[a];
     let lb = labels[b];
-    let lc = labels[c];
     let p = context.p;
-    let t = context.t;
     match op_of(w) {
-        1 => assign(values, context, a, one_flows(p, la), n_of(w), 1, pc, clock),
-        2 => combine(values, context, a, la, lb, lc, plus(x, y), 1, pc, clock),
-        3 => combine(values, context, a, la, lb, lc, minus(x, y), 1, pc, clock),
-        4 => combine(values, context, a, la, lb, lc, x & y, 1, pc, clock),
-        5 => combine(values, context, a, la, lb, lc, x | y, 1, pc, clock),
-        6 => combine(values, context, a, la, lb, lc, x ^ y, 1, pc, clock),
-        7 => combine(values, context, a, la, lb, lc, less(x, y), 1, pc, clock),
-        8 => {
-            let v = product(x, y);
-            let ticks = multiply_ticks(one_flows(lb, t) & one_flows(lc, t), y);
-            combine(values, context, a, la, lb, lc, v, ticks, pc, clock)
+        1 => {
+            let ok = one_flows(p, labels[a]);
+            assign(values, context, a, ok, n_of(w), 1, pc, clock)
         }
-        9 => load(values, words, marks, context, a, x, la, lb, pc, clock),
-        10 => store(words, marks, context, x, values[a], la, lb, pc, clock),
-        11 => branch(context, w, la, lb, values[a] == x, pc, clock),
-        12 => branch(context, w, la, lb, values[a] < x, pc, clock),
+        2 => combine(Arithmetic::Add, values, labels, context, w, pc, clock),
+        3 => combine(Arithmetic::Subtract, values, labels, context, w, pc, clock),
+        4 => combine(Arithmetic::And, values, labels, context, w, pc, clock),
+        5 => combine(Arithmetic::Or, values, labels, context, w, pc, clock),
+        6 => combine(Arithmetic::Xor, values, labels, context, w, pc, clock),
+        7 => combine(Arithmetic::Less, values, labels, context, w, pc, clock),
+        8 => combine(Arithmetic::Multiply, values, labels, context, w, pc, clock),
+        9 => {
+            let la = labels[a];
+            load(values, words, marks, context, a, x, la, lb, pc, clock)
+        }
+        10 => {
+            let la = labels[a];
+            store(words, marks, context, x, values[a], la, lb, pc, clock)
+        }
+        11 => branch(context, w, labels[a], lb, values[a] == x, pc, clock),
+        12 => branch(context, w, labels[a], lb, values[a] < x, pc, clock),
         13 => go(context, one_flows(lb, p), x, pc, clock),
-        14 => assign(values, context, a, two_flow(p, t, la), clock, 1, pc, clock),
+        14 => {
+            let ok = two_flow(p, context.t, labels[a]);
+            assign(values, context, a, ok, clock, 1, pc, clock)
+        }
         _ => stopping(Stop::Rest(w), pc, clock),
     }
 }

@@ -20,6 +20,7 @@ use model::Fixed;
 use model::Pair;
 use model::numbers::MOST_GATES;
 use model::numbers::REGISTER_COUNT;
+use model::numbers::ZERO_REGISTER;
 ghost use Prim.Native.Nat.{_+_, _^_, _≤_, _<_};
 ghost use mathlib.Core.Path.{_≡_};
 ghost use mathlib.Core.Bool.{true, false, not, cond, _&&_};
@@ -29,7 +30,7 @@ ghost use Rattle.labels.specs.Label.{labelCount, flows, join, meet, validPair, 
 ghost use Rattle.model.specs.Numbers.{mostWords, mostTicks, mostGates, registerCount};
 ghost use Rattle.model.specs.Record.{isGate, pairOf, register};
 ghost use Rattle.model.specs.Word.{aField, bField, cField, dField};
-ghost use Rattle.model.specs.Ops.{write, goto, nothing, label, enter, openUpcall, openGate, closeGate, isLabel, noGate};
+ghost use Rattle.model.specs.Ops.{writable, write, goto, nothing, label, enter, openUpcall, openGate, closeGate, isLabel, noGate};
 ghost use Rattle.model.specs.Step.{close, stall, carry};
 ghost use Rattle.engine.specs.Inner.Rest.{decisionOf, allowed, gateAllowed, Acts, Held, Short, Timely, Rested, Other, Ready, Planned, Limited, Decided};
 
@@ -88,12 +89,13 @@ fn may_relabel(x: u32, la: u8, p: u8) -> bool
     }
 }
 
+// Register a gets the label x if that may be, and it isn't register 0.
 fn set_label(ok: bool, a: usize, x: u32, lb: u8, p: u8) -> Act
     requires { ⌜ (ok ≡ true → x < labelCount) × (a < registerCount) ⌝ }
-    ensures { λ r. ⌜ Acts (ok && flows lb p) (write (label (register a) x)) r ⌝ }
+    ensures { λ r. ⌜ Acts (ok && flows lb p && writable a) (write (label (register a) x)) r ⌝ }
 {
     if ok {
-        if Label(lb).flows_to(Label(p)) {
+        if Label(lb).flows_to(Label(p)) & (ZERO_REGISTER < a) {
             return Act::SetLabel(a, byte(x));
         }
     }
@@ -102,7 +104,7 @@ fn set_label(ok: bool, a: usize, x: u32, lb: u8, p: u8) -> Act
 
 // Op 15.
 fn raise(w: u32, p: u8, values: &[u32; REGISTER_COUNT], labels: &[u8; REGISTER_COUNT]) -> Act
-    ensures { λ r. ⌜ Acts ((isLabel (getD (now (values .entry)) (bField w) 0) && mayRaise p (getD (now (labels .entry)) (aField w) 0) (getD (now (values .entry)) (bField w) 0)) && flows (getD (now (labels .entry)) (bField w) 0) p) (write (label (register (aField w)) (getD (now (values .entry)) (bField w) 0))) r ⌝ }
+    ensures { λ r. ⌜ Acts ((isLabel (getD (now (values .entry)) (bField w) 0) && mayRaise p (getD (now (labels .entry)) (aField w) 0) (getD (now (values .entry)) (bField w) 0)) && flows (getD (now (labels .entry)) (bField w) 0) p && writable (aField w)) (write (label (register (aField w)) (getD (now (values .entry)) (bField w) 0))) r ⌝ }
 {
     let a = a_of(w);
     let b = b_of(w);
@@ -112,7 +114,7 @@ fn raise(w: u32, p: u8, values: &[u32; REGISTER_COUNT], labels: &[u8; REGISTER_C
 
 // Op 16.
 fn relabel(w: u32, p: u8, values: &[u32; REGISTER_COUNT], labels: &[u8; REGISTER_COUNT]) -> Act
-    ensures { λ r. ⌜ Acts ((isLabel (getD (now (values .entry)) (bField w) 0) && mayRelabel p (getD (now (labels .entry)) (aField w) 0) (getD (now (values .entry)) (bField w) 0)) && flows (getD (now (labels .entry)) (bField w) 0) p) (write (label (register (aField w)) (getD (now (values .entry)) (bField w) 0))) r ⌝ }
+    ensures { λ r. ⌜ Acts ((isLabel (getD (now (values .entry)) (bField w) 0) && mayRelabel p (getD (now (labels .entry)) (aField w) 0) (getD (now (values .entry)) (bField w) 0)) && flows (getD (now (labels .entry)) (bField w) 0) p && writable (aField w)) (write (label (register (aField w)) (getD (now (values .entry)) (bField w) 0))) r ⌝ }
 {
     let a = a_of(w);
     let b = b_of(w);

@@ -1,16 +1,16 @@
--- `printer::is_listed` meets its contract. By what the label test promises.
+-- `printer::is_listed` meets its contract. By what the test of a blank entry promises.
 -- Assumes nothing.
 use borrow.Author.Needs.{needs}
 use Rattle.model.specs.Listing.{isListed}
 use Rattle.printer.proofs.is_listed.Statement.{statement}
 use Rattle.printer.proofs.is_listed.Tie as tie
 
-is-lowest-requires : tie.Need-is-lowest-requires
-is-lowest-requires c κs = search needs
+is-blank-requires : tie.Need-is-blank-requires
+is-blank-requires c κs = search needs
 
 returns : tie.Need-returns
 unfolding isListed
-returns c = rw (c .is-lowest .ensures)
+returns c = rw (c .is-blank .ensures)
 
 pub is-listed-spec : {M : Type 1} → statement M
-is-listed-spec = tie.close (tie.spec is-lowest-requires returns)
+is-listed-spec = tie.close (tie.spec is-blank-requires returns)

@@ -18,14 +18,14 @@ gate-verdict-requires c κs = search needs
 enum-known-line-2 : tie.Need-enum-known-line-2
 enum-known-line-2 c = search needs
 
-entry-verdict-requires : tie.Need-entry-verdict-requires
-entry-verdict-requires c κs = search needs
+register-verdict-requires : tie.Need-register-verdict-requires
+register-verdict-requires c κs = search needs
 
 enum-known-line-3 : tie.Need-enum-known-line-3
 enum-known-line-3 c = search needs
 
-entry-verdict-requires-2 : tie.Need-entry-verdict-requires-2
-entry-verdict-requires-2 c κs = search needs
+entry-verdict-requires : tie.Need-entry-verdict-requires
+entry-verdict-requires c κs = search needs
 
 enum-told-2 : tie.Need-enum-told-2
 enum-told-2 c = search needs
@@ -40,11 +40,11 @@ returns-2 c = rw (c .before .before .line .given .1) (c .gate-verdict .ensures)
 
 returns-3 : tie.Need-returns-3
 unfolding lineTests
-returns-3 c = rw (c .before .before .line2 .given .1) (c .entry-verdict .ensures)
+returns-3 c = rw (c .before .before .line2 .given .1) (c .register-verdict .ensures)
 
 returns-4 : tie.Need-returns-4
 unfolding lineTests
-returns-4 c = rw (c .before .before .line3 .given .1) (c .entry-verdict2 .ensures)
+returns-4 c = rw (c .before .before .line3 .given .1) (c .entry-verdict .ensures)
 
 returns-5 : tie.Need-returns-5
 unfolding lineTests firstRefusal
@@ -58,9 +58,9 @@ line-verdict-spec =
     enum-known-line
     gate-verdict-requires
     enum-known-line-2
-    entry-verdict-requires
+    register-verdict-requires
     enum-known-line-3
-    entry-verdict-requires-2
+    entry-verdict-requires
     enum-told-2
     returns
     returns-2

@@ -1,12 +1,14 @@
--- The tests of a G line, and those that R and W lines share, as the model lists them.
+-- The tests of a G line, those that R and W lines share, and those of an R line, as the model lists them.
 -- Assumes nothing.
 use Prim.Native.Nat.{ℕ}
-use mathlib.Core.List.{List, [], _∷_}
-use Rattle.causes.specs.declared.Cause.the-variants.{OutOfRange, OutOfOrder}
+use mathlib.Core.List.{List, [], _∷_, _++_}
+use Rattle.causes.specs.declared.Cause.the-variants.{OutOfRange, OutOfOrder, ZeroRegister}
 use Rattle.causes.specs.Tests.{Test, _orElse_}
 use Rattle.model.specs.declared.judging.Kind.{Kind}
-use Rattle.model.specs.declared.judging.Kind.the-variants.{GateLine}
+use Rattle.model.specs.declared.judging.Kind.the-variants.{GateLine, RegisterLine}
 use Rattle.model.specs.declared.judging.Last.{Last}
+use Rattle.model.specs.Numbers.{registerCount}
+use Rattle.model.specs.Ops.{writable}
 use Rattle.model.specs.Load.{gateInRange, entryInRange, inOrder, rising}
 
 -- Of a G line.
@@ -17,3 +19,7 @@ gateTests count last pc p t = inOrder last GateLine orElse OutOfOrder ∷ gateIn
 abbrev pub entryTests : Kind → ℕ → Last → ℕ → ℕ → ℕ → List Test
 entryTests kind bound last k l v =
     inOrder last kind orElse OutOfOrder ∷ entryInRange bound k l v orElse OutOfRange ∷ rising last kind k orElse OutOfOrder ∷ []
+
+-- Of an R line: those, and that it isn't for register 0.
+abbrev pub registerTests : Last → ℕ → ℕ → ℕ → List Test
+registerTests last k l v = entryTests RegisterLine registerCount last k l v ++ (writable k orElse ZeroRegister ∷ [])

@@ -5,11 +5,10 @@ use mathlib.Core.Path.{_≡_, subst, refl}
 use mathlib.Core.Bool.{Bool}
 use mathlib.Core.Logic.{_⊎_}
 use mathlib.Core.Option.{some}
-use native.Mathlib.Omega.{arith}
 use denote.Ref.{now}
 use borrow.Author.Needs.{needs}
 use Rattle.model.specs.Record.{State}
-use Rattle.model.specs.Word.{Op, opField, decode, compute}
+use Rattle.model.specs.Word.{Op, opField, decode}
 use Rattle.model.specs.Step.{known, fetched, fetch}
 use Rattle.engine.specs.Inner.Common.{view, Timed}
 use Rattle.engine.specs.declared.steps.common.Stop.the-variants.{Rest}
@@ -19,21 +18,19 @@ use Rattle.engine.proofs.steps.common.common.Tie as tie
 
 -- ---- the places: the start, the fields of the word read, and its op known
 
-abbrev read : tie.After-op-of → tie.After-c-of
-read c = c .before .before .before .before .before .before
+abbrev read : tie.After-op-of → tie.After-b-of
+read c = c .before .before .before
 
 abbrev started : tie.After-op-of → tie.Start
-started c = read c .before .before .before .before .before
+started c = read c .before .before .before .before
 
 -- The word.
 abbrev word : tie.After-op-of → ℕ
 word c = started c .args .w
 
 -- The numbers of its registers.
-fields : (c : tie.After-op-of)
-    → Fields (word c) (read c .before .before .a-of .result) (read c .before .b-of .result) (read c .c-of .result)
-fields c =
-    record { ra = read c .before .before .a-of .ensures .0; rb = read c .before .b-of .ensures .0; rc = read c .c-of .ensures .0 }
+fields : (c : tie.After-op-of) → Fields (word c) (read c .before .a-of .result) (read c .b-of .result)
+fields c = record { ra = read c .before .a-of .ensures .0; rb = read c .b-of .ensures .0 }
 
 -- Its op, where that has the number k.
 op-is : (c : tie.After-op-of) {s : State} {up : Bool} {deadline k : ℕ} {op : Op} → Timed s up deadline
@@ -55,32 +52,20 @@ a-of-requires c κs = search needs
 b-of-requires : tie.Need-b-of-requires
 b-of-requires c κs = search needs
 
-c-of-requires : tie.Need-c-of-requires
-c-of-requires c κs = search needs
-
 mul-x : tie.Need-mul-x
 mul-x c = search needs
 
 element-copy-out-x : tie.Need-element-copy-out-x
 element-copy-out-x c = search needs
 
-mul-y : tie.Need-mul-y
-mul-y c = search needs
-
-element-copy-out-y : tie.Need-element-copy-out-y
-element-copy-out-y c = search needs
-
-element-copy-out-la : tie.Need-element-copy-out-la
-element-copy-out-la c = search needs
-
 element-copy-out-lb : tie.Need-element-copy-out-lb
 element-copy-out-lb c = search needs
 
-element-copy-out-lc : tie.Need-element-copy-out-lc
-element-copy-out-lc c = search needs
-
 op-of-requires : tie.Need-op-of-requires
 op-of-requires c κs = search needs
+
+element-copy-out-one-flows : tie.Need-element-copy-out-one-flows
+element-copy-out-one-flows c = search needs
 
 one-flows-requires : tie.Need-one-flows-requires
 one-flows-requires c κs = search needs
@@ -91,14 +76,8 @@ n-of-requires c κs = search needs
 assign-requires : tie.Need-assign-requires
 assign-requires c κs = search needs
 
-plus-requires : tie.Need-plus-requires
-plus-requires c κs = search needs
-
 combine-requires : tie.Need-combine-requires
 combine-requires c κs = search needs
-
-minus-requires : tie.Need-minus-requires
-minus-requires c κs = search needs
 
 combine-requires-2 : tie.Need-combine-requires-2
 combine-requires-2 c κs = search needs
@@ -112,29 +91,20 @@ combine-requires-4 c κs = search needs
 combine-requires-5 : tie.Need-combine-requires-5
 combine-requires-5 c κs = search needs
 
-less-requires : tie.Need-less-requires
-less-requires c κs = search needs
-
 combine-requires-6 : tie.Need-combine-requires-6
 combine-requires-6 c κs = search needs
-
-product-requires : tie.Need-product-requires
-product-requires c κs = search needs
-
-one-flows-requires-2 : tie.Need-one-flows-requires-2
-one-flows-requires-2 c κs = search needs
-
-one-flows-requires-3 : tie.Need-one-flows-requires-3
-one-flows-requires-3 c κs = search needs
-
-multiply-ticks-requires : tie.Need-multiply-ticks-requires
-multiply-ticks-requires c κs = search needs
 
 combine-requires-7 : tie.Need-combine-requires-7
 combine-requires-7 c κs = search needs
 
+element-copy-out-la : tie.Need-element-copy-out-la
+element-copy-out-la c = search needs
+
 load-requires : tie.Need-load-requires
 load-requires c κs = search needs
+
+element-copy-out-la-2 : tie.Need-element-copy-out-la-2
+element-copy-out-la-2 c = search needs
 
 mul-store : tie.Need-mul-store
 mul-store c = search needs
@@ -145,29 +115,38 @@ element-copy-out-store c = search needs
 store-requires : tie.Need-store-requires
 store-requires c κs = search needs
 
-mul-branch : tie.Need-mul-branch
-mul-branch c = search needs
-
 element-copy-out-branch : tie.Need-element-copy-out-branch
 element-copy-out-branch c = search needs
 
-branch-requires : tie.Need-branch-requires
-branch-requires c κs = search needs
-
-mul-branch-2 : tie.Need-mul-branch-2
-mul-branch-2 c = search needs
+mul-branch : tie.Need-mul-branch
+mul-branch c = search needs
 
 element-copy-out-branch-2 : tie.Need-element-copy-out-branch-2
 element-copy-out-branch-2 c = search needs
 
+branch-requires : tie.Need-branch-requires
+branch-requires c κs = search needs
+
+element-copy-out-branch-3 : tie.Need-element-copy-out-branch-3
+element-copy-out-branch-3 c = search needs
+
+mul-branch-2 : tie.Need-mul-branch-2
+mul-branch-2 c = search needs
+
+element-copy-out-branch-4 : tie.Need-element-copy-out-branch-4
+element-copy-out-branch-4 c = search needs
+
 branch-requires-2 : tie.Need-branch-requires-2
 branch-requires-2 c κs = search needs
 
-one-flows-requires-4 : tie.Need-one-flows-requires-4
-one-flows-requires-4 c κs = search needs
+one-flows-requires-2 : tie.Need-one-flows-requires-2
+one-flows-requires-2 c κs = search needs
 
 go-requires : tie.Need-go-requires
 go-requires c κs = search needs
+
+element-copy-out-two-flow : tie.Need-element-copy-out-two-flow
+element-copy-out-two-flow c = search needs
 
 two-flow-requires : tie.Need-two-flow-requires
 two-flow-requires c κs = search needs
@@ -181,60 +160,58 @@ stopping-requires c κs = search needs
 returns : tie.Need-returns
 unfolding decode
 returns c =
-    let at = c .before .before .before .before .before in
-    λ s h f. immediate-turn h (fields at) (op-is at h f (c .before .before .before .before .match .keys1) refl)
-    (c .assign .ensures) (c .before .before .one-flows .ensures) (c .before .n-of .ensures) refl
+    let at = c .before .before .before .before .before .before in
+    λ s h f. immediate-turn h (fields at) (op-is at h f (c .before .before .before .before .before .match .keys1) refl)
+    (c .assign .ensures) (c .before .before .before .one-flows .ensures) (c .before .n-of .ensures) refl
 
 returns-2 : tie.Need-returns-2
-unfolding decode compute
+unfolding decode
 returns-2 c =
-    let at = c .before .before .before .before in
-    λ s h f. arithmetic-turn h (fields at) (op-is at h f (c .before .before .before .match .keys2) refl)
-    (c .combine .ensures) (omega arith) (c .before .plus .ensures) refl refl
+    let at = c .before .before .before in
+    λ s h f. arithmetic-turn (started at .args .context) h (op-is at h f (c .before .before .match .keys2) refl) refl refl
+    (c .combine .ensures) refl
 
 returns-3 : tie.Need-returns-3
-unfolding decode compute
+unfolding decode
 returns-3 c =
-    let at = c .before .before .before .before in
-    λ s h f. arithmetic-turn h (fields at) (op-is at h f (c .before .before .before .match .keys3) refl)
-    (c .combine2 .ensures) (omega arith) (c .before .minus .ensures) refl refl
+    let at = c .before .before .before in
+    λ s h f. arithmetic-turn (started at .args .context) h (op-is at h f (c .before .before .match .keys3) refl) refl refl
+    (c .combine2 .ensures) refl
 
 returns-4 : tie.Need-returns-4
-unfolding decode compute
+unfolding decode
 returns-4 c =
     let at = c .before .before .before in
-    λ s h f. arithmetic-turn h (fields at) (op-is at h f (c .before .before .match .keys4) refl)
-    (c .combine3 .ensures) (omega arith) refl refl refl
+    λ s h f. arithmetic-turn (started at .args .context) h (op-is at h f (c .before .before .match .keys4) refl) refl refl
+    (c .combine3 .ensures) refl
 
 returns-5 : tie.Need-returns-5
-unfolding decode compute
+unfolding decode
 returns-5 c =
     let at = c .before .before .before in
-    λ s h f. arithmetic-turn h (fields at) (op-is at h f (c .before .before .match .keys5) refl)
-    (c .combine4 .ensures) (omega arith) refl refl refl
+    λ s h f. arithmetic-turn (started at .args .context) h (op-is at h f (c .before .before .match .keys5) refl) refl refl
+    (c .combine4 .ensures) refl
 
 returns-6 : tie.Need-returns-6
-unfolding decode compute
+unfolding decode
 returns-6 c =
     let at = c .before .before .before in
-    λ s h f. arithmetic-turn h (fields at) (op-is at h f (c .before .before .match .keys6) refl)
-    (c .combine5 .ensures) (omega arith) refl refl refl
+    λ s h f. arithmetic-turn (started at .args .context) h (op-is at h f (c .before .before .match .keys6) refl) refl refl
+    (c .combine5 .ensures) refl
 
 returns-7 : tie.Need-returns-7
-unfolding decode compute
+unfolding decode
 returns-7 c =
-    let at = c .before .before .before .before in
-    λ s h f. arithmetic-turn h (fields at) (op-is at h f (c .before .before .before .match .keys7) refl)
-    (c .combine6 .ensures) (omega arith) (c .before .less .ensures) refl refl
+    let at = c .before .before .before in
+    λ s h f. arithmetic-turn (started at .args .context) h (op-is at h f (c .before .before .match .keys7) refl) refl refl
+    (c .combine6 .ensures) refl
 
 returns-8 : tie.Need-returns-8
-unfolding decode compute
+unfolding decode
 returns-8 c =
-    let timed = c .before .before in
-    let at = timed .before .before .before .before .before in
-    λ s h f. arithmetic-turn h (fields at) (op-is at h f (timed .before .before .before .before .match .keys8) refl)
-    (c .combine7 .ensures) (timed .multiply-ticks .ensures .1) (timed .before .before .before .product .ensures)
-    (rw (timed .multiply-ticks .ensures .0, timed .before .before .one-flows2 .ensures, timed .before .one-flows3 .ensures)) refl
+    let at = c .before .before .before in
+    λ s h f. arithmetic-turn (started at .args .context) h (op-is at h f (c .before .before .match .keys8) refl) refl refl
+    (c .combine7 .ensures) refl
 
 same-length : tie.Need-same-length
 same-length c = search needs
@@ -242,8 +219,8 @@ same-length c = search needs
 returns-9 : tie.Need-returns-9
 unfolding decode
 returns-9 c =
-    let at = c .before .before .before .before in
-    λ s h f. load-turn h (fields at) (op-is at h f (c .before .before .before .match .keys9) refl) (c .load .ensures) refl
+    let at = c .before .before .before .before .before in
+    λ s h f. load-turn h (fields at) (op-is at h f (c .before .before .before .before .match .keys9) refl) (c .load .ensures) refl
 
 same-length-2 : tie.Need-same-length-2
 same-length-2 c = search needs
@@ -251,35 +228,35 @@ same-length-2 c = search needs
 returns-10 : tie.Need-returns-10
 unfolding decode
 returns-10 c =
-    let at = c .before .before .before .before .before .before in
-    λ s h f. store-turn h (fields at) (op-is at h f (c .before .before .before .before .before .match .keys10) refl)
+    let chosen = c .before .before .before .before .before .before in
+    λ s h f. store-turn h (fields (chosen .before)) (op-is (chosen .before) h f (chosen .match .keys10) refl)
     (c .before .before .store .ensures) refl
 
 returns-11 : tie.Need-returns-11
 unfolding decode
 returns-11 c =
-    let at = c .before .before .before in
-    λ s h f. branch-turn h (fields at) (op-is at h f (c .before .before .match .keys11) refl) (c .branch .ensures) refl
+    let at = c .before .before .before .before in
+    λ s h f. branch-turn h (fields at) (op-is at h f (c .before .before .before .match .keys11) refl) (c .branch .ensures) refl
 
 returns-12 : tie.Need-returns-12
 unfolding decode
 returns-12 c =
-    let at = c .before .before .before in
-    λ s h f. branch-turn h (fields at) (op-is at h f (c .before .before .match .keys12) refl) (c .branch2 .ensures) refl
+    let at = c .before .before .before .before in
+    λ s h f. branch-turn h (fields at) (op-is at h f (c .before .before .before .match .keys12) refl) (c .branch2 .ensures) refl
 
 returns-13 : tie.Need-returns-13
 unfolding decode
 returns-13 c =
     let at = c .before .before .before in
     λ s h f. jump-turn h (fields at) (op-is at h f (c .before .before .match .keys13) refl)
-    (c .go .ensures) (c .before .one-flows4 .ensures)
+    (c .go .ensures) (c .before .one-flows2 .ensures)
 
 returns-14 : tie.Need-returns-14
 unfolding decode
 returns-14 c =
-    let at = c .before .before .before .before in
-    λ s h f. clock-turn h (fields at) (op-is at h f (c .before .before .before .match .keys14) refl)
-    (c .assign2 .ensures) (c .before .two-flow .ensures) (started at .pre .4) refl
+    let at = c .before .before .before .before .before in
+    λ s h f. clock-turn h (fields at) (op-is at h f (c .before .before .before .before .match .keys14) refl)
+    (c .assign2 .ensures) (c .before .before .two-flow .ensures) (started at .pre .4) refl
 
 returns-15 : tie.Need-returns-15
 returns-15 c =
@@ -297,44 +274,38 @@ common-spec =
     (tie.spec
     a-of-requires
     b-of-requires
-    c-of-requires
     mul-x
     element-copy-out-x
-    mul-y
-    element-copy-out-y
-    element-copy-out-la
     element-copy-out-lb
-    element-copy-out-lc
     op-of-requires
+    element-copy-out-one-flows
     one-flows-requires
     n-of-requires
     assign-requires
-    plus-requires
     combine-requires
-    minus-requires
     combine-requires-2
     combine-requires-3
     combine-requires-4
     combine-requires-5
-    less-requires
     combine-requires-6
-    product-requires
-    one-flows-requires-2
-    one-flows-requires-3
-    multiply-ticks-requires
     combine-requires-7
+    element-copy-out-la
     load-requires
+    element-copy-out-la-2
     mul-store
     element-copy-out-store
     store-requires
-    mul-branch
     element-copy-out-branch
-    branch-requires
-    mul-branch-2
+    mul-branch
     element-copy-out-branch-2
+    branch-requires
+    element-copy-out-branch-3
+    mul-branch-2
+    element-copy-out-branch-4
     branch-requires-2
-    one-flows-requires-4
+    one-flows-requires-2
     go-requires
+    element-copy-out-two-flow
     two-flow-requires
     assign-requires-2
     stopping-requires

@@ -1,6 +1,7 @@
 -- `engine::steps::common::put` meets its contract.
 -- Assumes nothing.
 use borrow.Author.Needs.{needs}
+use Rattle.model.specs.Ops.{writable}
 use Rattle.engine.proofs.steps.common.put.Statement.{statement}
 use Rattle.engine.proofs.steps.common.put.Tie as tie
 
@@ -11,9 +12,11 @@ element-write-values : tie.Need-element-write-values
 element-write-values c = search needs
 
 returns : tie.Need-returns
+unfolding writable
 returns c = rw (c .if1 .taken)
 
 returns-2 : tie.Need-returns-2
+unfolding writable
 returns-2 c = rw (c .if1 .left)
 
 pub put-spec : {M : Type 1} → statement M
