@@ -1,6 +1,6 @@
-/* Calls the library on buffers that it must refuse, and sees that they are left; has certificates made with each cause;
- * and tries its label rules on every label, beside those of document 01 as they are written here. Prints what went
- * wrong. */
+/* Calls the library on buffers that it must refuse, and sees that they are left; sees that register 0 stays; has
+ * certificates made with each cause; and tries its label rules on every label, beside those of document 01 as they are
+ * written here. Prints what went wrong. */
 #include "jennydusk.h"
 
 #include <stdio.h>
@@ -47,6 +47,7 @@ static uint64_t print(size_t length, size_t span) {
 }
 
 static const char image[] = "M,2,1,0,240,240,5\nW,0,240,17825797\n"; /* Ra := 5, and no op behind it */
+static const char zero_line[] = "M,2,1,0,240,240,5\nR,0,240,0\n"; /* it says what register 0 is without it */
 
 /* The table's refusals of a load; no call has written yet. */
 static void try_refused_loads(void) {
@@ -58,6 +59,7 @@ static void try_refused_loads(void) {
     expect("empty text", load("", SIZE, JENNYDUSK_SPAN), JENNYDUSK_TEXT_LENGTH, 0);
     expect("bad line", load("M,2,1,0,240,240,5\nW,0,240\n", SIZE, JENNYDUSK_SPAN), JENNYDUSK_MALFORMED, 2);
     expect("not rising", load("M,2,1,0,240,240,5\nW,1,240,1\nW,0,240,1\n", SIZE, JENNYDUSK_SPAN), JENNYDUSK_ORDER, 3);
+    expect("line for register 0", load(zero_line, SIZE, JENNYDUSK_SPAN), JENNYDUSK_ZERO_REGISTER, 2);
     expect("short words", load(image, SIZE - 1, JENNYDUSK_SPAN), JENNYDUSK_SHORT_MEMORY, 1);
     expect("step of no record", step(SIZE, JENNYDUSK_SPAN), JENNYDUSK_NO_RECORD, 0);
 }
@@ -91,8 +93,31 @@ static void try_calls(void) {
         wrong = 1, puts("run: another end");
 }
 
+/* Word 0 sets R0 to 5, and takes its tick alone. */
+static void try_zero_register(void) {
+    expect("load", load("M,2,1,0,240,240,5\nW,0,240,16777221\n", SIZE, JENNYDUSK_SPAN), JENNYDUSK_DONE, 0);
+    expect("step that would write register 0", step(SIZE, JENNYDUSK_SPAN), JENNYDUSK_DONE, 0);
+    if (record[JENNYDUSK_VALUE(0)] != 0 || record[JENNYDUSK_LABEL(0)] != JENNYDUSK_LOWEST || record[JENNYDUSK_PC] != 1
+        || record[JENNYDUSK_CLOCK] != 1)
+        wrong = 1, puts("step that would write register 0: another record");
+}
+
+/* A fit record, but for one word of register 0, is refused by each call. */
+static void try_other_zero_register(size_t word, uint64_t other) {
+    uint64_t own = record[word];
+    record[word] = other;
+    keep();
+    expect("step of another register 0", step(SIZE, JENNYDUSK_SPAN), JENNYDUSK_NO_RECORD, 0);
+    expect("run of another register 0", run(JENNYDUSK_SPAN), JENNYDUSK_NO_RECORD, 0);
+    expect("print of another register 0", print(sizeof output, JENNYDUSK_SPAN), JENNYDUSK_NO_RECORD, 0);
+    record[word] = own;
+    keep();
+}
+
 /* Words that are no record, in a buffer that is long enough. */
 static void try_no_records(void) {
+    try_other_zero_register(JENNYDUSK_VALUE(0), 1);
+    try_other_zero_register(JENNYDUSK_LABEL(0), 255);
     record[JENNYDUSK_CALL(0)] = 3;
     keep();
     expect("unknown kind", print(sizeof output, JENNYDUSK_SPAN), JENNYDUSK_NO_RECORD, 0);
@@ -121,6 +146,7 @@ static void try_refused_certificates(void) {
     expect("certify of a bad line", certify("M,2,1,0,240,240,5\nW,0,240\n", SIZE, SIZE, span), JENNYDUSK_MALFORMED, 2);
     expect("certify of a bad label", certify("M,2,1,0,240,256,5\n", SIZE, SIZE, span), JENNYDUSK_RANGE, 1);
     expect("certify out of order", certify("M,2,1,0,240,240,5\nW,1,240,1\nW,0,240,1\n", SIZE, SIZE, span), JENNYDUSK_ORDER, 3);
+    expect("certify of a line for register 0", certify(zero_line, SIZE, SIZE, span), JENNYDUSK_ZERO_REGISTER, 2);
     expect("certify of no valid pair", certify("M,2,1,0,15,15,5\n", SIZE, SIZE, span), JENNYDUSK_PAIR, 1);
     expect("certify in short words", certify(image, SIZE - 1, SIZE, span), JENNYDUSK_SHORT_MEMORY, 1);
     expect("certify in short labels", certify(image, SIZE, SIZE - 1, span), JENNYDUSK_SHORT_MEMORY, 1);
@@ -151,8 +177,8 @@ static void try_certificates(void) {
     expect_certificate("release", "M,2,0,1,240,240,5\nR,3,240,240\nR,5,255,7\nW,1,240,273874944\n", JENNYDUSK_RELEASE, 2, 1);
     expect_certificate("at large", "M,2,0,1,255,255,5\nG,0,240,240\n", JENNYDUSK_AT_LARGE, 0, 0);
     expect_certificate("timed from outside", "M,2,0,1,240,255,5\n", JENNYDUSK_TIMED_FROM_OUTSIDE, 0, 1);
-    /* Word 0 stores R0 into word 1, behind the break of the loaded state. */
-    expect_certificate("a run that goes on", "M,2,0,0,240,255,9\nR,0,240,7\nR,1,240,1\nW,0,240,167837696\n",
+    /* Word 0 stores R2 into word 1, behind the break of the loaded state. */
+    expect_certificate("a run that goes on", "M,2,0,0,240,255,9\nR,1,240,1\nR,2,240,7\nW,0,240,169934848\n",
                        JENNYDUSK_TIMED_FROM_OUTSIDE, 0, 0);
     if (words[1] != 7)
         wrong = 1, puts("certify: the run did not go on behind the break");
@@ -225,6 +251,7 @@ static void try_labels(void) {
 int main(void) {
     try_refused_loads();
     try_calls();
+    try_zero_register();
     try_no_records();
     try_refused_certificates();
     try_certificates();

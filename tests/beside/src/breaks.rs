@@ -6,8 +6,8 @@
 //! reason an upcall's kept labels are unsound only where they don't flow to the
 //! current ones.
 
-use interpreter::machine::{end, END_TICK_BOUND, MAX_GATES, MAX_LIMIT, MAX_SIZE};
-use interpreter::{Call, Machine, Pair, Return};
+use interpreter::machine::{end, END_TICK_BOUND, MAX_GATES, MAX_LIMIT, MAX_SIZE, ZERO_REGISTER};
+use interpreter::{Call, Label, Machine, Pair, Return};
 
 /// A way to be unfit. `prepare` leaves the record fit, `spoil` breaks it.
 pub struct Break {
@@ -186,7 +186,18 @@ pub const SHAPES: [Break; 5] = [
     }),
 ];
 
+/// Register 0 "always reads 0 with the lowest label, in every fit record too":
+/// another value, near and far, and another label, by one principal and by all.
+pub const ZERO: [Break; 4] = [
+    way("register 0 of value 1", |_| {}, |m| m.registers[ZERO_REGISTER].value = 1),
+    way("register 0 of value 2^32 - 1", alone, |m| m.registers[ZERO_REGISTER].value = u32::MAX),
+    way("register 0 of label 241", |_| {}, |m| m.registers[ZERO_REGISTER].label = Label(241)),
+    way("register 0 of the highest label", in_both, |m| {
+        m.registers[ZERO_REGISTER].label = Label::HIGHEST;
+    }),
+];
+
 /// All the ways.
 pub fn breaks() -> impl Iterator<Item = &'static Break> {
-    RANGES.iter().chain(&PAIRS).chain(&UPCALLS).chain(&SHAPES)
+    RANGES.iter().chain(&PAIRS).chain(&UPCALLS).chain(&SHAPES).chain(&ZERO)
 }

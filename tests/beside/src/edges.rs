@@ -2,8 +2,8 @@
 //! fitness, where one condition more would refuse them.
 
 use interpreter::generator::random::Random;
-use interpreter::machine::{end, END_TICK_BOUND, MAX_GATES, MAX_LIMIT, MAX_SIZE};
-use interpreter::{Call, Label, Machine, Pair, Return};
+use interpreter::machine::{end, END_TICK_BOUND, MAX_GATES, MAX_LIMIT, MAX_SIZE, ZERO_REGISTER};
+use interpreter::{Call, Label, Machine, Pair, Register, Return};
 
 /// A change after which a fit record is fit.
 pub struct Edge {
@@ -32,6 +32,11 @@ fn put_upcall(m: &mut Machine, random: &mut Random, end_tick: fn(&Machine) -> u6
 
 fn put_end(m: &mut Machine, end: u8) {
     (m.end, m.why) = (end, 3 * u8::from(end == end::STALLED));
+}
+
+/// The registers of which fitness asks nothing: all but register 0.
+fn settable(m: &mut Machine) -> &mut [Register] {
+    &mut m.registers[ZERO_REGISTER + 1..]
 }
 
 /// Fitness asks nothing of an ended record's clock and calls that it doesn't ask
@@ -63,7 +68,7 @@ pub const ENDED: [Edge; 7] = [
 ];
 
 /// What "these ranges", valid pairs and the end tick allow.
-pub const RANGES: [Edge; 14] = [
+pub const RANGES: [Edge; 15] = [
     edge("running at the limit", |m, _| {
         m.clock = m.clock.max(1);
         m.limit = m.clock;
@@ -105,7 +110,10 @@ pub const RANGES: [Edge; 14] = [
     edge("pc at the error pc", |m, _| m.pc = m.error_pc),
     edge("unsound labels", |m, r| {
         let label = Label(r.bits() as u8);
-        m.registers.iter_mut().for_each(|register| register.label = label);
+        settable(m).iter_mut().for_each(|register| register.label = label);
+    }),
+    edge("greatest values", |m, _| {
+        settable(m).iter_mut().for_each(|register| register.value = u32::MAX);
     }),
     edge("greatest limit", |m, _| {
         (m.first, m.second) = (Call::Empty, Call::Empty);

@@ -28,9 +28,17 @@ pub const LOAD: Loading = Loading { call: "load", buffer: "record", span: SPAN }
 pub const CERTIFY: Loading =
     Loading { call: "certify", buffer: "certificate", span: certificate::SPAN };
 
+/// "9, an R line for register 0"
+const ZERO_REGISTER_SET: u64 = 9;
+
+/// Every so many texts are good ones. The plans take turns among all the turns,
+/// so that their number must not be a multiple of it, or some never come up.
+const GOOD_EVERY: usize = 3;
+const _: () = assert!(!PLANS.len().is_multiple_of(GOOD_EVERY));
+
 /// The orders between two refusals that such a call can show and the program
 /// can't, for it always lends enough.
-const ORDERS: [&str; 9] = [
+const ORDERS: [&str; 10] = [
     "1 before 6",
     "2 before 6",
     "3 before 6",
@@ -38,6 +46,7 @@ const ORDERS: [&str; 9] = [
     "6 before 2",
     "6 before 3",
     "6 before 4",
+    "6 before 9",
     "255 before 6",
     "255 before the text",
 ];
@@ -64,7 +73,7 @@ impl Loading {
         let mut names: Vec<String> = ORDERS.map(|order| self.kind(order)).to_vec();
         names.extend(LENDINGS.iter().map(|lending| self.kind(lending.name)));
         names.extend(self.lengths().iter().map(|(name, _)| self.kind(name)));
-        let numbers = (0..7).chain([SHORT_BUFFER]);
+        let numbers = (0..7).chain([ZERO_REGISTER_SET, SHORT_BUFFER]);
         names.extend(numbers.map(|number| self.kind(&format!("answer {number}"))));
         names
     }
@@ -111,7 +120,7 @@ struct Text {
 
 /// A good text, or one damaged by each plan in turn.
 fn text(random: &mut Random, turn: usize) -> Text {
-    if turn.is_multiple_of(3) {
+    if turn.is_multiple_of(GOOD_EVERY) {
         let bytes = compose(random, &Census::new()).text();
         return Text { bytes, number: 0, line: 0 };
     }

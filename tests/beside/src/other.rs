@@ -37,7 +37,7 @@ fn change(record: &mut [u64], call: impl FnOnce(&mut Machine) -> Result<(), u8>)
 }
 
 impl Calls for Other {
-    /// "Answers a number, 0 to 6 or 255, and 256 times the line that was
+    /// "Answers a number, 0 to 6, 9 or 255, and 256 times the line that was
     /// refused. A load sets the words of the gates that no line names to 0."
     fn load(&self, text: &[u8], words: &mut [u32], labels: &mut [u8], record: &mut [u64]) -> u64 {
         if record.len() < SPAN {
@@ -77,7 +77,8 @@ impl Calls for Other {
 
     /// "Certifies a text at one label: loads it, and runs it to its end. The
     /// certificate goes to its buffer; words and labels hold what the run leaves.
-    /// Answers a number, 0 to 6 or 255, and 256 times the line that was refused."
+    /// Answers a number, 0 to 6, 9 or 255, and 256 times the line that was
+    /// refused."
     fn certify(
         &self,
         label: u8,

@@ -80,6 +80,7 @@ fn the_papers_numbers() {
     assert_eq!(refusals, [1, 2, 3, 4, 5]);
     assert_eq!(["DONE", "SHORT_MEMORY", "NO_RECORD", "SHORT_OUTPUT"].map(number), [0, 6, 7, 8]);
     assert_eq!(number("NO_RECORD") as u64, NO_RECORD);
+    assert_eq!(number("ZERO_REGISTER"), 9);
 }
 
 /// The paper's table has no such refusal, and so no such number.

@@ -59,7 +59,8 @@ impl Machine {
     /// location whose label is outside; Rb is a label within, Lb flows to p, and
     /// the part of the rule that can be seen holds": p flows to Rb, and Rb to the
     /// reflection of p. "Whether the location's own label allows it is not
-    /// asked."
+    /// asked." Register 0 can't be relabelled, and needs no case of its own: its
+    /// label is the lowest, which is never outside.
     fn tries_release(&self, level: Label, words: &[u32]) -> bool {
         let Some(&word) = words.get(self.pc as usize) else {
             return false;

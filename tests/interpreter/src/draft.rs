@@ -43,7 +43,8 @@ impl Draft {
         draft
     }
 
-    /// Sets a register's label and value, as an R line does.
+    /// Sets a register's label and value, as an R line does. Register 0 has no R
+    /// line: a draft that sets it is refused.
     pub fn register(&mut self, number: usize, label: u8, value: u32) {
         self.registers[number] = Register { value, label: Label(label) };
     }

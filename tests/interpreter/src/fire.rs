@@ -4,8 +4,8 @@ use crate::load::load;
 use crate::machine::MAX_SIZE;
 use crate::print::print;
 
-/// The longest listing has an E line, two F lines, 16 R lines and 2,048 W lines
-/// of at most 22 bytes; this is more.
+/// The longest listing has an E line, two F lines, 15 R lines (register 0 has
+/// none) and 2,048 W lines of at most 22 bytes; this is more.
 const OUTPUT: usize = 65_536;
 
 /// "Program `firing` ... runs to the end and prints" the listing, or the X line.

@@ -3,6 +3,8 @@
 //! The modules follow the chapters of that paper. Every function quotes the
 //! sentence that it implements, so that the two can be read side by side.
 //! Names are those of the field; the paper's own words stand in the comments.
+//! What is quoted of register 0 stands in the owner's later request: "It now
+//! always reads 0 with the lowest label".
 
 #![forbid(unsafe_code)]
 

@@ -4,7 +4,7 @@
 //! last line has been accepted, so a refusal leaves the memory as it was.
 
 use crate::label::{Label, Pair};
-use crate::machine::{Gate, Machine, Register, MAX_GATES, MAX_LIMIT, MAX_SIZE};
+use crate::machine::{Gate, Machine, Register, MAX_GATES, MAX_LIMIT, MAX_SIZE, ZERO_REGISTER};
 use crate::SHORT_MEMORY;
 
 /// "text empty or above 65,535 bytes"
@@ -15,6 +15,7 @@ const BAD_LINE: u8 = 2;
 const BAD_RANGE: u8 = 3;
 const BAD_ORDER: u8 = 4;
 const BAD_PAIR: u8 = 5;
+const BAD_REGISTER: u8 = 9;
 
 /// The refusal table's second and third columns for a load: "number, line".
 #[derive(Clone, Copy, Debug, PartialEq, Eq)]
@@ -50,7 +51,7 @@ struct Image {
 
 /// The first row that applies of the refusal table, in its order: "After 1,
 /// line by line, a line is tried for 2, 4 (kind), 3, 4 (rising), then 5; 6
-/// follows line 1, before line 2."
+/// follows line 1, before line 2." 9 is "tried after the rising test".
 pub fn load(text: &[u8], words: &mut [u32], labels: &mut [u8]) -> Result<Machine, Refusal> {
     if text.is_empty() || text.len() > MAX_TEXT {
         return Err(Refusal { number: BAD_TEXT, line: 0 });
@@ -203,11 +204,15 @@ impl Image {
         Ok(())
     }
 
-    /// "`R,number,label,value`"
+    /// "`R,number,label,value`"; "an R line for register 0, tried after the
+    /// rising test" is 9, whatever its label and its value.
     fn add_register(&mut self, number: u64, label: u64, value: u64) -> Result<(), u8> {
         let index = to_index(number, self.machine.registers.len())?;
         let register = Register { value: to_word(value)?, label: to_label(label)? };
         self.rise_to(number)?;
+        if index == ZERO_REGISTER {
+            return Err(BAD_REGISTER);
+        }
         self.machine.registers[index] = register;
         Ok(())
     }

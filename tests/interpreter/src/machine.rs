@@ -17,6 +17,9 @@ pub const MAX_GATES: usize = 8;
 /// An upcall's "end tick at least the clock and below 2^33".
 pub const END_TICK_BOUND: u64 = 1 << 33;
 
+/// The register that "always reads 0 with the lowest label".
+pub const ZERO_REGISTER: usize = 0;
+
 /// "end (0 running, 1 halted, 2 clock spent, 3 stalled)"
 pub mod end {
     pub const RUNNING: u8 = 0;
@@ -74,6 +77,12 @@ pub struct Machine {
     pub first: Call,
     /// The newer call, where there are two.
     pub second: Call,
+}
+
+/// Whether a register can't be written or relabelled: register 0 is the one.
+#[inline]
+pub fn is_constant(register: usize) -> bool {
+    register == ZERO_REGISTER
 }
 
 impl Register {
@@ -148,6 +157,13 @@ impl Machine {
             && why_holds
     }
 
+    /// Register 0 "always reads 0 with the lowest label, in every fit record
+    /// too". Nothing is asked of the others.
+    fn constants_hold(&self) -> bool {
+        let mut registers = self.registers.iter().enumerate();
+        registers.all(|(number, register)| !is_constant(number) || *register == Register::UNSET)
+    }
+
     /// "none, a gate call, an upcall, or an upcall over a gate call, the older
     /// first and a lone call in the first place."
     fn calls_are_shaped(&self) -> bool {
@@ -172,9 +188,11 @@ impl Machine {
 
 /// "The record is *fit* when these ranges hold, clock ≤ limit, the current and
 /// all kept pairs are valid, and an upcall's kept labels flow to the current
-/// ones, its end tick at least the clock and below 2^33."
+/// ones, its end tick at least the clock and below 2^33." And register 0 reads
+/// 0 with the lowest label.
 pub fn is_fit(machine: &Machine) -> bool {
     machine.ranges_hold()
+        && machine.constants_hold()
         && machine.calls_are_shaped()
         && machine.clock <= machine.limit
         && machine.pair.is_valid()

@@ -5,7 +5,7 @@
 
 use crate::instruction::{op, Instruction};
 use crate::label::{may_raise, may_relabel, Label, Pair};
-use crate::machine::{end, Call, Machine, Register, Return};
+use crate::machine::{end, is_constant, Call, Machine, Register, Return};
 
 impl Machine {
     /// The first three columns of the op table; true when the check passed.
@@ -50,9 +50,11 @@ impl Machine {
     }
 
     /// "Ra := ...": the value is written if the label of all that went into it
-    /// flows to La. For op 1 that is "p to La".
+    /// flows to La. For op 1 that is "p to La". Ops "that would write or
+    /// relabel" register 0 "only take their ticks and grow the place", as a
+    /// failed check does.
     fn assign(&mut self, a: usize, value: u32, source: Label) -> bool {
-        let passes = source.flows_to(self.registers[a].label);
+        let passes = !is_constant(a) && source.flows_to(self.registers[a].label);
         if passes {
             self.registers[a].value = value;
         }
@@ -133,14 +135,14 @@ impl Machine {
     }
 
     /// "La raised, relabelled to Rb | its rule; Lb to p". "A label read from a
-    /// register must be at most 255."
+    /// register must be at most 255." Register 0 is never relabelled.
     #[inline(never)]
     fn change_label(&mut self, i: Instruction, rule: fn(Label, Label, Label) -> bool) -> bool {
         let Some(to) = Label::from_value(self.registers[i.b()].value) else {
             return false;
         };
         let from = self.registers[i.a()].label;
-        let passes = rule(from, to, self.pair.pc) && self.may_jump(i);
+        let passes = !is_constant(i.a()) && rule(from, to, self.pair.pc) && self.may_jump(i);
         if passes {
             self.registers[i.a()].label = to;
         }

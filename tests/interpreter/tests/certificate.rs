@@ -105,6 +105,22 @@ fn an_op_that_the_end_tick_bars_is_no_attempt() {
     }
 }
 
+#[test]
+fn a_relabelling_of_register_0_is_no_attempt_at_any_level() {
+    for number in [op::RAISE, op::RELABEL] {
+        for to in [2, 3] {
+            let draft = image(&[encode(number, 0, to, 0)]);
+            let loaded = Loaded::of(&draft);
+            for level in (0..=255).map(Label) {
+                let Loaded { mut machine, mut words, labels } = loaded.clone();
+                let certificate = machine.certify(level, &mut words, &labels).unwrap();
+                assert_eq!(certificate, Certificate::WHOLE);
+                assert_eq!(machine.clock, 3);
+            }
+        }
+    }
+}
+
 /// The certificate at this level of a relabelling under this pair, from one label
 /// to another.
 fn relabelled(level: u8, pair: Pair, from: u8, to: u32) -> Certificate {

@@ -21,6 +21,17 @@ fn the_same_seed_gives_the_same_images() {
 }
 
 #[test]
+fn every_fourth_image_is_damaged_and_no_other_has_a_line_for_register_0() {
+    let mut generator = Generator::new(5);
+    for number in 1..=1_000 {
+        let text = String::from_utf8(generator.next_image()).unwrap();
+        let is_good = Loaded::of_text(&text).is_ok();
+        assert_eq!(is_good, number % 4 != 0, "{text}");
+        assert!(!is_good || !text.contains("\nR,0,"), "{text}");
+    }
+}
+
+#[test]
 fn three_thousand_images_meet_every_kind() {
     for seed in [1, 2] {
         let mut generator = Generator::new(seed);

@@ -93,7 +93,7 @@ fn the_longest_listing_is_below_46_000_bytes() {
     for address in 0..2_048 {
         draft.word(address, 255, u32::MAX);
     }
-    for number in 0..16 {
+    for number in 1..16 {
         draft.register(number, 255, u32::MAX);
     }
     let length = Loaded::of(&draft).listing().len();

@@ -16,7 +16,7 @@ const ACCEPTED: (u8, u32) = (0, 0);
 
 #[test]
 fn a_good_text_is_accepted() {
-    assert_eq!(after_m("G,1,240,255\nG,1,0,15\nR,0,1,2\nR,15,3,4\nW,0,5,6\nW,7,7,8\n"), ACCEPTED);
+    assert_eq!(after_m("G,1,240,255\nG,1,0,15\nR,1,1,2\nR,15,3,4\nW,0,5,6\nW,7,7,8\n"), ACCEPTED);
 }
 
 #[test]
@@ -86,7 +86,7 @@ fn ten_digits_too_large_are_3_and_a_zero_alone_is_good() {
     assert_eq!(after_m("R,1,240,4294967295\n"), ACCEPTED);
     assert_eq!(after_m("R,1,240,4294967296\n"), (3, 2));
     assert_eq!(after_m("R,1,240,9999999999\n"), (3, 2));
-    assert_eq!(after_m("R,0,0,0\n"), ACCEPTED);
+    assert_eq!(after_m("R,1,0,0\n"), ACCEPTED);
 }
 
 #[test]
@@ -109,8 +109,8 @@ fn each_number_has_its_range() {
         "G,0,256,240",
         "G,0,240,256",
         "R,16,240,0",
-        "R,0,256,0",
-        "R,0,240,4294967296",
+        "R,1,256,0",
+        "R,1,240,4294967296",
         "W,8,240,0",
         "W,0,256,0",
         "W,0,240,4294967296",
@@ -151,7 +151,63 @@ fn a_ninth_g_is_3_after_2_and_4() {
     assert_eq!(after_m(&eight), ACCEPTED);
     assert_eq!(after_m(&format!("{eight}G,0,240,240\n")), (3, 10));
     assert_eq!(after_m(&format!("{eight}G,0,240\n")), (2, 10));
-    assert_eq!(after_m(&format!("{eight}R,0,240,1\nG,0,240,240\n")), (4, 11));
+    assert_eq!(after_m(&format!("{eight}R,1,240,1\nG,0,240,240\n")), (4, 11));
+}
+
+#[test]
+fn an_r_line_for_register_0_is_9_at_its_line_whatever_it_says() {
+    for line in ["R,0,240,0\n", "R,0,240,1\n", "R,0,15,0\n", "R,0,255,4294967295\n"] {
+        assert_eq!(after_m(line), (9, 2), "{line}");
+        assert_eq!(after_m(&format!("G,1,240,240\n{line}")), (9, 3), "{line}");
+    }
+    // Twice is 9 at the first.
+    assert_eq!(after_m("R,0,240,0\nR,0,240,0\n"), (9, 2));
+}
+
+#[test]
+fn an_r_line_for_register_0_is_tried_for_2_4_and_3_first() {
+    for line in ["R,0,240,+0\n", "R,00,240,0\n", "R,0,240\n", "R,0,240,0,\n", "R,0,240,0"] {
+        assert_eq!(after_m(line), (2, 2), "{line}");
+    }
+    assert_eq!(after_m("R,0,256,0\n"), (3, 2));
+    assert_eq!(after_m("R,0,240,4294967296\n"), (3, 2));
+    assert_eq!(after_m("R,1,240,1\nR,0,240,0\n"), (4, 3));
+    assert_eq!(after_m("R,1,240,0\nR,0,256,0\n"), (3, 3));
+    assert_eq!(after_m("W,0,240,1\nR,0,240,0\n"), (4, 3));
+    assert_eq!(after_m("W,0,240,1\nR,0,256,0\n"), (4, 3));
+    // A first line that isn't M.
+    assert_eq!(refusal("R,0,240,0\n"), (2, 1));
+}
+
+#[test]
+fn nine_on_an_earlier_line_comes_before_what_is_wrong_later_and_the_other_way_round() {
+    let wrong = [
+        ("R,1,240,x\n", 2),
+        ("R,16,240,0\n", 3),
+        ("G,1,240,240\nM,8,7,0,240,240,100\n", 4),
+        ("R,3,240,0\nR,3,240,0\n", 4),
+        ("R,1,240,0", 2),
+    ];
+    for (rest, _) in wrong {
+        assert_eq!(after_m(&format!("R,0,240,0\n{rest}")), (9, 2), "{rest}");
+    }
+    for (rest, number) in &wrong[..4] {
+        let line = 1 + rest.lines().count() as u32;
+        assert_eq!(after_m(&format!("{rest}R,0,240,0\n")), (*number, line), "{rest}");
+    }
+    assert_eq!(refusal("M,8,7,0,255,240,100\nR,0,240,0\n"), (5, 1));
+    assert_eq!(refusal("M,0,7,0,240,240,100\nR,0,240,0\n"), (3, 1));
+}
+
+#[test]
+fn nine_leaves_the_memory_and_comes_after_6() {
+    let text = format!("{M}R,0,240,0\nW,3,15,9\n");
+    for (length, refused) in [(10, (9, 2)), (7, (6, 1))] {
+        let (mut words, mut labels) = (vec![5; length], vec![6; length]);
+        let Refusal { number, line } = load(text.as_bytes(), &mut words, &mut labels).unwrap_err();
+        assert_eq!((number, line), refused);
+        assert_eq!((words, labels), (vec![5; length], vec![6; length]));
+    }
 }
 
 #[test]

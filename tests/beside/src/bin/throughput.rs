@@ -11,7 +11,7 @@ use beside::library::Library;
 use beside::other::Other;
 use interpreter::draft::Draft;
 use interpreter::loops::loops;
-use interpreter::machine::MAX_SIZE;
+use interpreter::machine::{MAX_SIZE, ZERO_REGISTER};
 use interpreter::Pair;
 use std::env;
 use std::time::Instant;
@@ -28,10 +28,11 @@ fn main() {
     show_growth(rounds);
 }
 
-/// All registers and words set, with labels and values of most digits.
+/// All registers but register 0 and all words set, with labels and values of most
+/// digits.
 fn longest() -> Vec<u8> {
     let mut draft = Draft::new(MAX_SIZE as usize, 0, 0, Pair::new(240, 240), 1);
-    draft.registers.iter_mut().chain(&mut draft.words).for_each(|location| {
+    draft.registers[ZERO_REGISTER + 1..].iter_mut().chain(&mut draft.words).for_each(|location| {
         location.value = u32::MAX;
     });
     draft.text()

@@ -8,7 +8,7 @@ use interpreter::generator::compose::compose;
 use interpreter::generator::labels::{not_below, valid_pair};
 use interpreter::generator::random::Random;
 use interpreter::instruction::{encode, op};
-use interpreter::machine::end;
+use interpreter::machine::{end, ZERO_REGISTER};
 use interpreter::{Label, Machine, Register};
 
 /// The second machine may loop where the first one halts; no run is longer.
@@ -107,9 +107,9 @@ fn watch(draft: &Draft) -> Levels {
 }
 
 /// Puts half of the registers at the clock label, so that a multiply takes its
-/// time by what is hidden where only p is seen.
+/// time by what is hidden where only p is seen. Register 0 keeps the lowest.
 fn hide_factors(random: &mut Random, draft: &mut Draft) {
-    for register in &mut draft.registers {
+    for register in &mut draft.registers[ZERO_REGISTER + 1..] {
         if random.chance(50) {
             register.label = draft.pair.timing;
         }
@@ -117,6 +117,7 @@ fn hide_factors(random: &mut Random, draft: &mut Draft) {
 }
 
 /// Changes what is hidden: the value, at times the label, to another hidden one.
+/// Register 0, whose label flows to every other, is never hidden.
 fn change(random: &mut Random, level: Label, location: &mut Register) {
     if is_within(location.label, level) || random.chance(30) {
         return;

@@ -4,6 +4,7 @@
 
 use super::damage::PLANS;
 use super::faults::FAULTS;
+use super::on_zero::writes;
 use crate::instruction::op;
 use crate::machine::{Call, Machine};
 use std::collections::BTreeMap;
@@ -15,7 +16,7 @@ pub const CONTEXTS: [&str; 4] =
 
 /// Everything besides the ops that a run can meet. All are listed, so that one
 /// that is never met shows up with the count 0.
-const NOTES: [&str; 73] = [
+const NOTES: [&str; 89] = [
     "end 1 with no call open",
     "end 1 with a gate call open",
     "end 2 with no call open",
@@ -32,6 +33,7 @@ const NOTES: [&str; 73] = [
     "refusal 3",
     "refusal 4",
     "refusal 5",
+    "refusal 9",
     "fetch fails with no call open, why 1",
     "fetch fails with no call open, why 2",
     "fetch fails with no call open, why 3",
@@ -89,6 +91,21 @@ const NOTES: [&str; 73] = [
     "gate call fails: its labels don't flow to p",
     "gate call fails: Lb",
     "gate return fails: labels, with a gate call on top",
+    "ops 2 to 8 with register 0",
+    "op 9 with the address in register 0",
+    "op 10 stores register 0",
+    "op 10 with the address in register 0",
+    "op 11 with register 0",
+    "op 12 with register 0",
+    "op 13 with register 0",
+    "ops 15 and 16 with the label in register 0",
+    "op 17 with register 0 for p",
+    "op 17 with register 0 for t",
+    "op 18 with register 0 for its ticks",
+    "op 18 with register 0 for p",
+    "op 18 with register 0 for t",
+    "op 18 with register 0 for its return place",
+    "op 20 with register 0 for gate 0",
 ];
 
 /// Counts of everything met so far.
@@ -98,6 +115,8 @@ pub struct Census {
     /// By op: not carried out in an upcall because it is late, and not carried
     /// out because of the limit.
     undone: [[u64; 2]; 23],
+    /// By op: what one met that would write or relabel register 0.
+    on_zero: [[u64; ON_ZERO.len()]; 23],
     notes: BTreeMap<&'static str, u64>,
     /// What no run should meet.
     strange: BTreeMap<String, u64>,
@@ -111,6 +130,47 @@ pub struct Census {
 pub enum Undone {
     Late,
     BeyondLimit,
+}
+
+/// What an op can meet that would write or relabel register 0.
+#[derive(Clone, Copy, Debug, PartialEq, Eq)]
+pub enum OnZero {
+    /// It passes by, with calls of this context open.
+    PassedBy(usize),
+    /// It is not carried out.
+    Undone(Undone),
+    /// It passes by, and any other register would have been changed.
+    StoppedAlone,
+}
+
+/// All of them, in the order in which they are shown.
+const ON_ZERO: [OnZero; 7] = [
+    OnZero::PassedBy(0),
+    OnZero::PassedBy(1),
+    OnZero::PassedBy(2),
+    OnZero::PassedBy(3),
+    OnZero::Undone(Undone::Late),
+    OnZero::Undone(Undone::BeyondLimit),
+    OnZero::StoppedAlone,
+];
+
+impl OnZero {
+    /// Its index in the list.
+    fn index(self) -> usize {
+        match self {
+            OnZero::PassedBy(context) => context,
+            OnZero::Undone(undone) => CONTEXTS.len() + undone as usize,
+            OnZero::StoppedAlone => ON_ZERO.len() - 1,
+        }
+    }
+
+    /// Whether an op can meet it.
+    fn is_possible(self, number: u8) -> bool {
+        match self {
+            OnZero::Undone(undone) => writes(number) && can_be_undone(number, undone),
+            _ => writes(number),
+        }
+    }
 }
 
 /// Which of the four shapes the open calls have.
@@ -163,7 +223,8 @@ impl Census {
         let faults = FAULTS.iter().map(|fault| fault.to_string());
         let damages = plans.chain(faults).map(|name| (name, 0)).collect();
         let (ops, undone) = ([[[0; 2]; 23]; 4], [[0; 2]; 23]);
-        Census { ops, undone, notes, strange: BTreeMap::new(), damages }
+        let on_zero = [[0; ON_ZERO.len()]; 23];
+        Census { ops, undone, on_zero, notes, strange: BTreeMap::new(), damages }
     }
 
     /// Adds what one image has met: each kind once, however often it came up.
@@ -174,6 +235,8 @@ impl Census {
         }
         let sums = self.undone.iter_mut().flatten();
         sums.zip(seen.undone.iter().flatten()).for_each(|(sum, count)| *sum += (*count).min(1));
+        let sums = self.on_zero.iter_mut().flatten();
+        sums.zip(seen.on_zero.iter().flatten()).for_each(|(sum, count)| *sum += (*count).min(1));
         let sums = self.notes.values_mut();
         sums.zip(seen.notes.values()).for_each(|(sum, count)| *sum += (*count).min(1));
         seen.strange.keys().for_each(|name| *self.strange.entry(name.clone()).or_insert(0) += 1);
@@ -190,6 +253,15 @@ impl Census {
 
     pub fn count_undone(&mut self, number: u8, undone: Undone) {
         self.undone[usize::from(number)][undone as usize] += 1;
+    }
+
+    /// In how many images an op on register 0 has met this.
+    pub fn on_zero_count(&self, number: u8, met: OnZero) -> u64 {
+        self.on_zero[usize::from(number)][met.index()]
+    }
+
+    pub fn count_on_zero(&mut self, number: u8, met: OnZero) {
+        self.on_zero[usize::from(number)][met.index()] += 1;
     }
 
     /// Counts a note. One that is not in the list is of something that can't be.
@@ -225,7 +297,15 @@ impl Census {
         let mut unmet: Vec<String> = notes.map(|(name, _)| name.to_string()).collect();
         unmet.extend(damages.map(|(name, _)| name.clone()));
         unmet.extend((op::SET..=op::HALT).flat_map(|number| self.unmet_of_op(number)));
+        unmet.extend((op::SET..=op::HALT).flat_map(|number| self.unmet_on_zero(number)));
         unmet
+    }
+
+    /// What an op on register 0 can meet and has not met yet.
+    fn unmet_on_zero(&self, number: u8) -> Vec<String> {
+        let possible = ON_ZERO.into_iter().filter(|met| met.is_possible(number));
+        let missing = possible.filter(|&met| self.on_zero_count(number, met) == 0);
+        missing.map(|met| format!("op {number} on register 0: {met:?}")).collect()
     }
 
     /// The outcomes of an op that no image has met yet.
@@ -269,6 +349,15 @@ impl Census {
         });
         row + &format!(" {late:>6} {beyond:>6}\n")
     }
+
+    /// The row of an op that would write or relabel register 0.
+    fn row_on_zero(&self, number: u8) -> String {
+        let shown = ON_ZERO.map(|met| {
+            let count = self.on_zero_count(number, met);
+            format!(" {:>6}", Census::shown(count, met.is_possible(number)))
+        });
+        format!("op {number:>2} on register 0:{}\n", shown.concat())
+    }
 }
 
 impl fmt::Display for Census {
@@ -276,6 +365,11 @@ impl fmt::Display for Census {
         writeln!(out, "images in which an op passed/failed with {},", CONTEXTS.join(", with "))?;
         writeln!(out, "was late in an upcall, and was barred by the limit")?;
         let rows: String = (op::SET..=op::HALT).map(|number| self.row(number)).collect();
+        write!(out, "{rows}")?;
+        writeln!(out, "images in which an op passed by at register 0 with the same calls open,")?;
+        writeln!(out, "was late, was barred, and was stopped by nothing but register 0")?;
+        let writers = (op::SET..=op::HALT).filter(|&number| writes(number));
+        let rows: String = writers.map(|number| self.row_on_zero(number)).collect();
         let notes: String =
             NOTES.iter().map(|name| format!("{name}: {}\n", self.notes[name])).collect();
         let damages: String =

@@ -6,19 +6,27 @@
 //! rarer so far the likelier, and words are tried until one does. What comes
 //! out is the image from which the machine would have run the same way.
 
-use super::census::{context, is_possible, Census};
+use super::census::{context, is_possible, Census, OnZero, Undone};
 use super::labels;
+use super::on_zero::{is_on_zero, is_stopped_alone, with_a, writes};
 use super::random::Random;
 use super::start::start_draft;
 use super::words::word_of;
 use crate::draft::Draft;
 use crate::instruction::{op, Instruction};
 use crate::label::{Label, Pair};
-use crate::machine::{end, Machine, MAX_LIMIT};
+use crate::machine::{end, Machine, MAX_LIMIT, ZERO_REGISTER};
 use crate::step::Event;
 
 /// So many words are tried for an op that is wanted to pass or to fail.
 const TRIES: u32 = 60;
+
+/// In so many of a hundred words, and in so many of an upcall, an op would write
+/// or relabel register 0; so many are tried for one that nothing but register 0
+/// stops.
+const ON_ZERO_CHANCE: u32 = 8;
+const ON_ZERO_CHANCE_IN_UPCALLS: u32 = 18;
+const ON_ZERO_TRIES: u32 = 6;
 
 /// A program being written and run at once.
 struct Writer {
@@ -89,6 +97,8 @@ impl Writer {
         let word = if unknown {
             // An unknown op: 0, or above the last.
             random.pick(&[0, 23, 24, 128, 255]) << 24 | random.bits() >> 8
+        } else if random.chance(self.on_zero_chance()) {
+            self.word_on_zero(random, census)
         } else {
             self.wanted_word(random, census)
         };
@@ -104,6 +114,14 @@ impl Writer {
             3
         } else {
             1
+        }
+    }
+
+    /// In how many of a hundred words an op would write or relabel register 0.
+    fn on_zero_chance(&self) -> u32 {
+        match self.machine.open_upcall() {
+            Some(_) => ON_ZERO_CHANCE_IN_UPCALLS,
+            None => ON_ZERO_CHANCE,
         }
     }
 
@@ -129,7 +147,37 @@ impl Writer {
             let (has_passed, next) = self.try_step();
             let is_new = self.decided.get(next as usize) == Some(&false);
             let leads_on = is_new && self.is_of_interest(Instruction(word), passed);
-            if has_passed == passed && (leads_on || random.chance(10)) {
+            let stays = is_on_zero(Instruction(word));
+            if has_passed == passed && !stays && (leads_on || random.chance(10)) {
+                break;
+            }
+        }
+        std::mem::replace(&mut self.words[pc], before)
+    }
+
+    /// An op that would write or relabel register 0, the rarer in this context so
+    /// far, or so far late in an upcall, the likelier.
+    fn wanted_on_zero(&self, random: &mut Random, census: &Census) -> u8 {
+        let met = match self.machine.open_upcall() {
+            Some((_, end_tick)) if end_tick == self.machine.clock => OnZero::Undone(Undone::Late),
+            _ => OnZero::PassedBy(context(&self.machine)),
+        };
+        let numbers: Vec<u8> = (op::SET..=op::HALT).filter(|&number| writes(number)).collect();
+        let weight = |&number: &u8| rarity(census.on_zero_count(number, met));
+        let weights: Vec<u32> = numbers.iter().map(weight).collect();
+        numbers[random.weighted(&weights)]
+    }
+
+    /// A word of an op that would write or relabel register 0; one that nothing
+    /// but register 0 stops, if it comes up.
+    fn word_on_zero(&mut self, random: &mut Random, census: &Census) -> u32 {
+        let number = self.wanted_on_zero(random, census);
+        let pc = self.machine.pc as usize;
+        let before = self.words[pc];
+        for _ in 0..ON_ZERO_TRIES {
+            let word = word_of(random, number, self.machine.pc, self.machine.size);
+            self.words[pc] = with_a(word, ZERO_REGISTER);
+            if is_stopped_alone(&self.machine, &self.words, &self.labels) {
                 break;
             }
         }
@@ -155,9 +203,8 @@ impl Writer {
         let kinds = (op::SET..=op::HALT).flat_map(|number| [(number, false), (number, true)]);
         let kinds: Vec<(u8, bool)> =
             kinds.filter(|&(number, passed)| is_possible(shape, number, passed)).collect();
-        let weight = |&(number, passed): &(u8, bool)| {
-            (1_000_000 / (census.op_count(shape, number, passed) + 10)) as u32 + 1
-        };
+        let weight =
+            |&(number, passed): &(u8, bool)| rarity(census.op_count(shape, number, passed));
         let weights: Vec<u32> = kinds.iter().map(weight).collect();
         kinds[random.weighted(&weights)]
     }
@@ -265,4 +312,9 @@ impl Writer {
             _ => {}
         }
     }
+}
+
+/// The weight of something met so often: the rarer, the heavier.
+fn rarity(count: u64) -> u32 {
+    (1_000_000 / (count + 10)) as u32 + 1
 }

@@ -4,7 +4,7 @@
 //! What refusal is due is known from how the image was damaged, not from the
 //! loader, so the loader can be tried against it.
 
-use super::faults::Fault::{self, Form, Kind, Pair, Range, Rising};
+use super::faults::Fault::{self, Form, Kind, Pair, Range, Rising, Zero};
 use super::faults::{number, Lines};
 use super::random::Random;
 use crate::draft::join_lines;
@@ -38,7 +38,7 @@ use Plan::{
 };
 
 /// All plans; they take turns.
-pub const PLANS: [Plan; 53] = [
+pub const PLANS: [Plan; 70] = [
     Empty,
     Long(None),
     Long(Some(Form)),
@@ -46,12 +46,14 @@ pub const PLANS: [Plan; 53] = [
     Long(Some(Range)),
     Long(Some(Rising)),
     Long(Some(Pair)),
+    Long(Some(Zero)),
     AlmostLong,
     One(Form),
     One(Kind),
     One(Range),
     One(Rising),
     One(Pair),
+    One(Zero),
     One(Form),
     One(Range),
     OneLine(Form, Kind),
@@ -61,6 +63,10 @@ pub const PLANS: [Plan; 53] = [
     OneLine(Kind, Range),
     OneLine(Range, Rising),
     OneLine(Range, Pair),
+    OneLine(Form, Zero),
+    OneLine(Kind, Zero),
+    OneLine(Range, Zero),
+    OneLine(Rising, Zero),
     TwoLines(Form, Form),
     TwoLines(Form, Kind),
     TwoLines(Form, Range),
@@ -81,6 +87,16 @@ pub const PLANS: [Plan; 53] = [
     TwoLines(Pair, Kind),
     TwoLines(Pair, Range),
     TwoLines(Pair, Rising),
+    TwoLines(Form, Zero),
+    TwoLines(Kind, Zero),
+    TwoLines(Range, Zero),
+    TwoLines(Rising, Zero),
+    TwoLines(Pair, Zero),
+    TwoLines(Zero, Form),
+    TwoLines(Zero, Kind),
+    TwoLines(Zero, Range),
+    TwoLines(Zero, Rising),
+    TwoLines(Zero, Zero),
     NinthGate(None),
     NinthGate(Some(Form)),
     NinthGate(Some(Kind)),
@@ -88,6 +104,7 @@ pub const PLANS: [Plan; 53] = [
     MissingEnd(Some(Kind)),
     MissingEnd(Some(Range)),
     MissingEnd(Some(Rising)),
+    MissingEnd(Some(Zero)),
     LoneFirst(None),
     LoneFirst(Some(Range)),
     LoneFirst(Some(Pair)),
@@ -106,7 +123,10 @@ pub fn damage(random: &mut Random, plan: Plan) -> Damaged {
     let gates = if matches!(plan, NinthGate(_)) { 8 } else { random.between(2, 4) };
     let mut lines = Lines::good(random, gates);
     lines.names.push(format!("damage {plan:?}"));
-    let last = lines.lines.len() - 1;
+    let last = match plan {
+        MissingEnd(Some(Zero)) => lines.first_register(),
+        _ => lines.lines.len() - 1,
+    };
     let (refusal, end) = match plan {
         Empty => return finish(lines, (1, 0), |_| Vec::new()),
         Long(fault) => {

@@ -3,9 +3,12 @@
 use super::labels;
 use super::random::Random;
 use crate::draft::Draft;
+use crate::label::Label;
+use crate::machine::ZERO_REGISTER;
 
 /// The faults that a line can have, in the order in which they are tried: "a
-/// line is tried for 2, 4 (kind), 3, 4 (rising), then 5".
+/// line is tried for 2, 4 (kind), 3, 4 (rising), then 5", and for 9, an R line
+/// for register 0, "after the rising test".
 #[derive(Clone, Copy, Debug, PartialEq, Eq)]
 pub enum Fault {
     Form,
@@ -13,11 +16,12 @@ pub enum Fault {
     Range,
     Rising,
     Pair,
+    Zero,
 }
-use Fault::{Form, Kind, Pair, Range, Rising};
+use Fault::{Form, Kind, Pair, Range, Rising, Zero};
 
 /// The names of all that can be done to a line, under which it is counted.
-pub const FAULTS: [&str; 47] = [
+pub const FAULTS: [&str; 49] = [
     "form fault: lower-case letter",
     "form fault: unknown letter",
     "form fault: letter twice",
@@ -65,6 +69,8 @@ pub const FAULTS: [&str; 47] = [
     "rising fault: R falling",
     "rising fault: W equal",
     "rising fault: W falling",
+    "zero fault: value 0 and label 240",
+    "zero fault: any value and label",
 ];
 
 /// The lines of an image, each cut into its fields, while being damaged.
@@ -80,6 +86,7 @@ pub fn number(fault: Fault) -> u8 {
         Range => 3,
         Kind | Rising => 4,
         Pair => 5,
+        Zero => 9,
     }
 }
 
@@ -110,10 +117,10 @@ impl Lines {
         &self.lines[line][0]
     }
 
-    /// Whether a line can have a fault: the pair is on the first line, a kind
-    /// can be out of order after it, and a number can fail to rise behind
-    /// another of its kind.
-    fn takes(&self, line: usize, fault: Fault) -> bool {
+    /// Whether a line can have a fault, alone or after others: the pair is on the
+    /// first line, a kind can be out of order after it, and a number can fail to
+    /// rise behind another of its kind.
+    fn takes(&self, line: usize, fault: Fault, others: &[Fault]) -> bool {
         match fault {
             Form | Range => true,
             Kind => line > 0,
@@ -122,13 +129,37 @@ impl Lines {
                 (letter == "R" || letter == "W") && self.letter(line - 1) == letter
             }
             Pair => line == 0,
+            Zero => line > 0 && self.takes_zero(line, others),
         }
     }
 
-    /// A line from `first` on that can have all the faults.
-    fn line_for(&self, random: &mut Random, first: usize, faults: &[Fault]) -> usize {
-        let takes_all = |&line: &usize| faults.iter().all(|&fault| self.takes(line, fault));
-        let lines: Vec<usize> = (first..self.lines.len()).filter(takes_all).collect();
+    /// Whether a line can be that of register 0, which stands behind a W line if
+    /// its kind shall be out of order, behind an R line if it shall not rise, and
+    /// else before all other R lines.
+    fn takes_zero(&self, line: usize, others: &[Fault]) -> bool {
+        let (behind, is_register) = (self.letter(line - 1), self.letter(line) == "R");
+        if others.contains(&Kind) {
+            behind == "W"
+        } else if others.contains(&Rising) {
+            behind == "R" && is_register
+        } else {
+            behind != "R" && is_register
+        }
+    }
+
+    /// Whether a line can have a fault that isn't reached, for an earlier line is
+    /// refused. An R line for register 0 can then stand at any.
+    fn takes_behind(&self, line: usize, fault: Fault) -> bool {
+        match fault {
+            Zero => self.letter(line) == "R",
+            fault => self.takes(line, fault, &[]),
+        }
+    }
+
+    /// A line that can have all the faults.
+    fn line_for(&self, random: &mut Random, faults: &[Fault]) -> usize {
+        let takes_all = |&line: &usize| faults.iter().all(|&fault| self.takes(line, fault, faults));
+        let lines: Vec<usize> = (0..self.lines.len()).filter(takes_all).collect();
         // The first line is one of many, yet it has the most to go wrong.
         if lines[0] == 0 && random.chance(35) {
             return 0;
@@ -138,7 +169,7 @@ impl Lines {
 
     /// Puts faults on one line and gives its index.
     pub fn put(&mut self, random: &mut Random, faults: &[Fault]) -> usize {
-        let line = self.line_for(random, 0, faults);
+        let line = self.line_for(random, faults);
         self.apply(random, line, faults);
         line
     }
@@ -146,15 +177,22 @@ impl Lines {
     /// Puts a fault on a line and another on a later one; gives the first line.
     pub fn put_two(&mut self, random: &mut Random, fault: Fault, other: Fault) -> usize {
         loop {
-            let line = self.line_for(random, 0, &[fault]);
-            let has_later = (line + 1..self.lines.len()).any(|later| self.takes(later, other));
-            if has_later {
-                let later = self.line_for(random, line + 1, &[other]);
+            let line = self.line_for(random, &[fault]);
+            let behind = line + 1..self.lines.len();
+            let lines: Vec<usize> = behind.filter(|&line| self.takes_behind(line, other)).collect();
+            if !lines.is_empty() {
+                let later = random.pick(&lines);
                 self.apply(random, later, &[other]);
                 self.apply(random, line, &[fault]);
                 return line;
             }
         }
+    }
+
+    /// The first R line.
+    pub fn first_register(&self) -> usize {
+        let line = (0..self.lines.len()).find(|&line| self.letter(line) == "R");
+        line.expect("a good image has R lines")
     }
 
     /// A ninth G behind the eight, or behind a later line, or of bad form.
@@ -192,16 +230,19 @@ impl Lines {
     pub fn apply(&mut self, random: &mut Random, line: usize, faults: &[Fault]) {
         let has = |fault: Fault| faults.contains(&fault);
         if has(Kind) {
-            self.break_kind(random, line);
+            self.break_kind(random, line, has(Zero));
         }
         if has(Pair) {
             self.break_pair(random, line);
         }
         if has(Rising) {
-            self.break_rising(random, line);
+            self.break_rising(random, line, has(Zero));
+        }
+        if has(Zero) {
+            self.name_zero(random, line);
         }
         let mut spoilt = if has(Pair) { vec![4, 5] } else { Vec::new() };
-        if has(Rising) {
+        if has(Rising) || has(Zero) {
             spoilt.push(1);
         }
         if has(Range) {
@@ -212,12 +253,13 @@ impl Lines {
         }
     }
 
-    /// A second M, or a G or an R behind a later kind.
-    fn break_kind(&mut self, random: &mut Random, line: usize) {
-        let mut choices = vec!["M,8,7,0,240,240,100"];
+    /// A second M, or a G or an R behind a later kind; only an R where it is to
+    /// be that of register 0.
+    fn break_kind(&mut self, random: &mut Random, line: usize, for_zero: bool) {
+        let mut choices = if for_zero { vec![] } else { vec!["M,8,7,0,240,240,100"] };
         let rank = |letter: &str| "MGRW".find(letter).unwrap_or(0);
         let previous = rank(self.letter(line - 1));
-        if previous > rank("G") {
+        if previous > rank("G") && !for_zero {
             choices.push("G,3,240,240");
         }
         if previous > rank("R") {
@@ -245,13 +287,30 @@ impl Lines {
         self.lines[line][5] = t.0.to_string();
     }
 
-    /// The number of the line before, or a smaller one.
-    fn break_rising(&mut self, random: &mut Random, line: usize) {
+    /// The number of the line before, or a smaller one, or 0.
+    fn break_rising(&mut self, random: &mut Random, line: usize, to_zero: bool) {
         let previous: u32 = self.lines[line - 1][1].parse().unwrap_or(0);
-        let number = if random.chance(50) { previous } else { random.below(previous + 1) };
+        let number = match random.below(2) {
+            _ if to_zero => 0,
+            0 => previous,
+            _ => random.below(previous + 1),
+        };
         let how = if number == previous { "equal" } else { "falling" };
         self.names.push(format!("rising fault: {} {how}", self.letter(line)));
         self.lines[line][1] = number.to_string();
+    }
+
+    /// Makes an R line that of register 0, now and then with what it holds anyway.
+    fn name_zero(&mut self, random: &mut Random, line: usize) {
+        self.lines[line][1] = ZERO_REGISTER.to_string();
+        let name = if random.chance(40) {
+            self.lines[line][2] = Label::LOWEST.0.to_string();
+            self.lines[line][3] = "0".to_string();
+            "value 0 and label 240"
+        } else {
+            "any value and label"
+        };
+        self.names.push(format!("zero fault: {name}"));
     }
 
     /// Puts a field out of its range, at its edge or far off; gives the field.

@@ -6,6 +6,7 @@ pub mod compose;
 pub mod damage;
 pub mod faults;
 pub mod labels;
+mod on_zero;
 pub mod random;
 mod start;
 pub mod watch;

@@ -6,7 +6,19 @@ use super::random::Random;
 use super::words::any_word;
 use crate::draft::Draft;
 use crate::label::{Label, Pair};
-use crate::machine::MAX_SIZE;
+use crate::machine::{MAX_SIZE, ZERO_REGISTER};
+use std::ops::Range;
+
+/// "register 15 gets the cause"
+const STATUS: usize = 15;
+
+/// The registers that hold what ops need: all between register 0 and the one for
+/// causes.
+const TOOLS: Range<usize> = ZERO_REGISTER + 1..STATUS;
+
+/// In so many of a hundred images all runs under the lowest labels, and nothing
+/// but its number keeps register 0 from being written.
+const LOWEST_CHANCE: u32 = 15;
 
 /// The image before its program: labels, registers and gates.
 pub fn start_draft(random: &mut Random) -> Draft {
@@ -17,7 +29,9 @@ pub fn start_draft(random: &mut Random) -> Draft {
         3 => random.between(97, 250),
         _ => MAX_SIZE,
     };
-    let pair = labels::valid_pair(random);
+    let is_lowest = random.chance(LOWEST_CHANCE);
+    let lowest = Pair { pc: Label::LOWEST, timing: Label::LOWEST };
+    let pair = if is_lowest { lowest } else { labels::valid_pair(random) };
     // The error pc is mostly behind the program, so that a failed fetch leads on
     // to new words and not round in a circle.
     let error_pc = if random.chance(60) { size - 1 - size / 4 } else { place(random, size) };
@@ -28,7 +42,7 @@ pub fn start_draft(random: &mut Random) -> Draft {
     };
     let limit = u64::from(random.between(60, 400));
     let mut draft = Draft::new(size as usize, error_pc, pc, pair, limit);
-    let high = higher_pair(random, pair);
+    let high = if is_lowest { lowest } else { higher_pair(random, pair) };
     add_gates(random, &mut draft);
     set_registers(random, &mut draft, high);
     if random.chance(85) {
@@ -41,9 +55,10 @@ pub fn start_draft(random: &mut Random) -> Draft {
     draft
 }
 
-/// Registers near the labels of the machine and of an upcall from it.
+/// Registers near the labels of the machine and of an upcall from it. Register 0
+/// can't be set.
 fn set_registers(random: &mut Random, draft: &mut Draft, high: Pair) {
-    for number in 0..draft.registers.len() {
+    for number in ZERO_REGISTER + 1..draft.registers.len() {
         let near = if random.chance(30) { high } else { draft.pair };
         let label = labels::location_label(random, near);
         let value = register_value(random, draft);
@@ -58,7 +73,8 @@ fn higher_pair(random: &mut Random, pair: Pair) -> Pair {
 }
 
 /// Puts into registers of low labels what upcalls, gate calls, op 17 and a
-/// program that rewrites itself need, and gives register 15 a label at which causes mostly arrive.
+/// program that rewrites itself need, and gives register 15 a label at which
+/// causes mostly arrive.
 fn lay_out_tools(random: &mut Random, draft: &mut Draft, high: Pair) {
     let size = draft.words.len() as u32;
     let higher = higher_pair(random, high);
@@ -72,16 +88,16 @@ fn lay_out_tools(random: &mut Random, draft: &mut Draft, high: Pair) {
     let (target, code) = (random.between(size / 4, size - 1), any_word(random, size));
     let labels = [high.pc, high.timing, higher.pc, higher.timing, draft.pair.pc];
     let labels = labels.map(|label| u32::from(label.0));
-    let first = random.index(15);
+    let first = random.index(TOOLS.len());
     for (offset, value) in [time, back, gate, target, code].into_iter().chain(labels).enumerate() {
         let label = if random.chance(75) { Label::LOWEST } else { draft.pair.pc };
-        draft.register((first + offset) % 15, label.0, value);
+        draft.register(TOOLS.start + (first + offset) % TOOLS.len(), label.0, value);
     }
-    draft.registers[15].label = match random.below(10) {
+    draft.registers[STATUS].label = match random.below(10) {
         0..=2 => high.timing,
         3..=5 => labels::above(random, high.timing),
         6 => higher.timing,
-        _ => draft.registers[15].label,
+        _ => draft.registers[STATUS].label,
     };
 }
 

@@ -1,10 +1,11 @@
 //! Watching a run: each step is sorted into the kinds of the census.
 
-use super::census::{context, Census, Undone, CONTEXTS};
+use super::census::{context, Census, OnZero, Undone, CONTEXTS};
+use super::on_zero::{is_on_zero, is_stopped_alone, unhurried};
 use crate::instruction::{op, Instruction};
 use crate::label::Label;
 use crate::load::load;
-use crate::machine::{end, Call, Machine, MAX_LIMIT, MAX_SIZE};
+use crate::machine::{end, Machine, MAX_SIZE, ZERO_REGISTER};
 use crate::step::Event;
 
 /// A run is watched for so many steps; the rest of a long loop shows nothing
@@ -28,6 +29,8 @@ struct Moment {
     why: u8,
     /// Whether the op's check fails, whatever the limit and the end tick.
     fails: bool,
+    /// Whether the op would change register 0, were it any other register.
+    stopped_alone: bool,
     label: Option<Label>,
     rewritten: bool,
 }
@@ -63,8 +66,10 @@ fn watch_step(census: &mut Census, watched: &mut Watched) {
     moment.count_event(census, event, &watched.machine);
     moment.count_op(census, event);
     moment.count_undone(census, event);
+    moment.count_on_zero(census, event);
     moment.count_lateness(census, event);
     moment.count_operands(census);
+    moment.count_zero_sources(census, event);
     let stored = moment.count_passed(census, event, &watched.machine);
     if let Some(address) = stored {
         watched.rewritten[address] = true;
@@ -86,19 +91,15 @@ impl Watched {
         let fetched = instruction.filter(|_| why == 0);
         let op = fetched.map(|i| (i, before.clock + before.ticks(i)));
         let rewritten = self.rewritten.get(pc) == Some(&true);
-        Moment { before, op, why, fails: self.would_fail(), label, rewritten }
+        let stopped_alone =
+            fetched.is_some_and(is_on_zero) && is_stopped_alone(&before, &self.words, &self.labels);
+        let fails = self.would_fail();
+        Moment { before, op, why, fails, stopped_alone, label, rewritten }
     }
 
     /// Tries the op on a copy with all the time in the world.
     fn would_fail(&self) -> bool {
-        let mut copy = self.machine.clone();
-        copy.clock = 0;
-        copy.limit = MAX_LIMIT;
-        for call in [&mut copy.first, &mut copy.second] {
-            if let Call::Upcall(_, end_tick) = call {
-                *end_tick = MAX_LIMIT - 1;
-            }
-        }
+        let mut copy = unhurried(&self.machine);
         let event = copy.step_watched(&mut self.words.clone(), &self.labels);
         matches!(event, Ok(Event::Failed))
     }
@@ -150,14 +151,15 @@ impl Moment {
     }
 
     /// Counts an op as passed or failed in its context. An op that closes an
-    /// upcall with cause 3 has failed; op 19, closing with cause 1, has passed.
+    /// upcall with cause 3 has failed; op 19, closing with cause 1, has passed. An
+    /// op that passes by at register 0 is counted apart.
     fn count_op(&self, census: &mut Census, event: Event) {
         if let (Event::Closed(3), true) = (event, self.why > 0) {
             census.note(&format!("cause 3 by a failed fetch, why {}", self.why));
             let at_error_pc = self.before.pc == self.before.error_pc;
             census.note_if(at_error_pc, "cause 3 by a failed fetch at the error pc");
         }
-        let Some((instruction, _)) = self.op else {
+        let Some((instruction, _)) = self.op.filter(|(i, _)| !is_on_zero(*i)) else {
             return;
         };
         let passed = match event {
@@ -186,6 +188,58 @@ impl Moment {
             }
             _ => {}
         }
+    }
+
+    /// Counts an op that would write or relabel register 0.
+    fn count_on_zero(&self, census: &mut Census, event: Event) {
+        let Some((i, _)) = self.op.filter(|(i, _)| is_on_zero(*i)) else {
+            return;
+        };
+        match event {
+            Event::Failed => {
+                census.count_on_zero(i.op(), OnZero::PassedBy(context(&self.before)));
+                if self.stopped_alone {
+                    census.count_on_zero(i.op(), OnZero::StoppedAlone);
+                }
+            }
+            Event::Closed(2) => census.count_on_zero(i.op(), OnZero::Undone(Undone::Late)),
+            Event::Spent if self.before.clock < self.before.limit => {
+                census.count_on_zero(i.op(), OnZero::Undone(Undone::BeyondLimit));
+            }
+            Event::Passed => census.note("an op on register 0 passed"),
+            _ => {}
+        }
+    }
+
+    /// Counts an op that passes with register 0 among those that it reads.
+    fn count_zero_sources(&self, census: &mut Census, event: Event) {
+        let Some((i, _)) = self.op.filter(|_| event == Event::Passed) else {
+            return;
+        };
+        let [a, b, c, d] = [i.a(), i.b(), i.c(), i.d()].map(|register| register == ZERO_REGISTER);
+        let uses: &[(bool, &str)] = match i.op() {
+            op::ADD..=op::MULTIPLY => &[(b || c, "ops 2 to 8 with register 0")],
+            op::LOAD => &[(b, "op 9 with the address in register 0")],
+            op::STORE => {
+                &[(a, "op 10 stores register 0"), (b, "op 10 with the address in register 0")]
+            }
+            op::BRANCH_EQUAL => &[(a || b, "op 11 with register 0")],
+            op::BRANCH_LESS => &[(a || b, "op 12 with register 0")],
+            op::JUMP => &[(b, "op 13 with register 0")],
+            op::RAISE | op::RELABEL => &[(b, "ops 15 and 16 with the label in register 0")],
+            op::SET_PAIR => {
+                &[(b, "op 17 with register 0 for p"), (c, "op 17 with register 0 for t")]
+            }
+            op::UPCALL => &[
+                (a, "op 18 with register 0 for its ticks"),
+                (b, "op 18 with register 0 for p"),
+                (c, "op 18 with register 0 for t"),
+                (d, "op 18 with register 0 for its return place"),
+            ],
+            op::GATE_CALL => &[(b, "op 20 with register 0 for gate 0")],
+            _ => &[],
+        };
+        uses.iter().for_each(|&(used, name)| census.note_if(used, name));
     }
 
     /// Counts how an op in an upcall stands to the end tick.

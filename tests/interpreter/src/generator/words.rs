@@ -2,6 +2,10 @@
 
 use super::random::Random;
 use crate::instruction::{encode, op};
+use crate::machine::ZERO_REGISTER;
+
+/// In so many of a hundred cases a register that an op reads is register 0.
+const ZERO_CHANCE: u32 = 12;
 
 /// An instruction word of any op, its fields as they come.
 pub fn any_word(random: &mut Random, size: u32) -> u32 {
@@ -20,8 +24,25 @@ pub fn word_of(random: &mut Random, number: u8, pc: u32, size: u32) -> u32 {
         (op::BRANCH_EQUAL | op::BRANCH_LESS, 7 | 8) => random.below(size),
         (op::SET, 0..=3) => forward,
         (op::SET, 4..=7) => random.below(256),
+        (op::ADD..=op::MULTIPLY | op::SET_PAIR | op::UPCALL, _) => {
+            let (c, d) = (source(random), source(random));
+            c << 12 | d << 8 | random.below(256)
+        }
         _ => random.bits(),
     };
-    let (a, b) = (random.bits(), random.bits());
-    encode(number, a, b, n)
+    let a = match number {
+        op::STORE..=op::BRANCH_LESS => source(random),
+        // For an upcall's ticks too: one without time shows little.
+        _ => random.below(16),
+    };
+    encode(number, a, source(random), n)
+}
+
+/// The number of a register to read.
+fn source(random: &mut Random) -> u32 {
+    if random.chance(ZERO_CHANCE) {
+        ZERO_REGISTER as u32
+    } else {
+        random.below(16)
+    }
 }
