@@ -11,7 +11,7 @@
 #include <stddef.h>
 #include <stdint.h>
 
-#define JENNYDUSK_VERSION "1.1.0"
+#define JENNYDUSK_VERSION "2.0.0"
 
 #ifdef __cplusplus
 extern "C" {
@@ -32,8 +32,8 @@ extern "C" {
 #define JENNYDUSK_CALL(k) (32 + 5 * (k)) /* open call k, 0 or 1, the older first: five words, as below */
 #define JENNYDUSK_END 42
 #define JENNYDUSK_WHY 43
-#define JENNYDUSK_VALUE(k) (44 + (k)) /* the value of register k, 0 to 15 */
-#define JENNYDUSK_LABEL(k) (60 + (k)) /* its label */
+#define JENNYDUSK_VALUE(k) (44 + (k)) /* the value of register k, 0 to 15; that of register 0 is always 0 */
+#define JENNYDUSK_LABEL(k) (60 + (k)) /* its label; that of register 0 is always 240 */
 
 /* The five words of an open call, counted from JENNYDUSK_CALL(k). They are 0 where a call of its kind keeps nothing. */
 #define JENNYDUSK_CALL_KIND 0
@@ -76,15 +76,17 @@ extern "C" {
 #define JENNYDUSK_COUNT(answer) ((size_t)((answer) / 256))
 
 #define JENNYDUSK_DONE 0
-#define JENNYDUSK_TEXT_LENGTH 1  /* the text is empty or above 65535 bytes; line 0 */
-#define JENNYDUSK_MALFORMED 2    /* letter, field count, digits or a missing LF; the first line is no M */
-#define JENNYDUSK_RANGE 3        /* a number outside its range; a ninth G */
-#define JENNYDUSK_ORDER 4        /* a kind out of order, a second M, a number that isn't rising */
-#define JENNYDUSK_PAIR 5         /* the pair of the M line is not valid */
-#define JENNYDUSK_SHORT_MEMORY 6 /* words or labels shorter than the size */
-#define JENNYDUSK_NO_RECORD 7    /* the record is not well-formed, or the buffer holds none: a word is outside its
-                                  * field's range, or a call's words are none */
-#define JENNYDUSK_SHORT_OUTPUT 8 /* the output is shorter than the listing */
+#define JENNYDUSK_TEXT_LENGTH 1   /* the text is empty or above 65535 bytes; line 0 */
+#define JENNYDUSK_MALFORMED 2     /* letter, field count, digits or a missing LF; the first line is no M */
+#define JENNYDUSK_RANGE 3         /* a number outside its range; a ninth G */
+#define JENNYDUSK_ORDER 4         /* a kind out of order, a second M, a number that isn't rising */
+#define JENNYDUSK_PAIR 5          /* the pair of the M line is not valid */
+#define JENNYDUSK_SHORT_MEMORY 6  /* words or labels shorter than the size */
+#define JENNYDUSK_NO_RECORD 7     /* the record is not well-formed, as where register 0 isn't value 0, label 240; or the
+                                   * buffer holds none: a word is outside its field's range, or a call's words are
+                                   * none */
+#define JENNYDUSK_SHORT_OUTPUT 8  /* the output is shorter than the listing */
+#define JENNYDUSK_ZERO_REGISTER 9 /* an R line for register 0, whatever it says */
 #define JENNYDUSK_SHORT_BUFFER 255 /* the record's buffer is shorter than JENNYDUSK_SPAN, or the certificate's than
                                     * JENNYDUSK_CERTIFICATE_SPAN */
 
@@ -92,8 +94,8 @@ extern "C" {
  * answers JENNYDUSK_SHORT_BUFFER where the buffer of the record or the certificate is too short, before it reads
  * anything. */
 
-/* Loads a text. The record goes to its buffer, the memory to words and labels below the size. Answers a number, 0 to 6
- * or 255, and 256 times the line that was refused. A load sets the words of the gates that no line names to 0. */
+/* Loads a text. The record goes to its buffer, the memory to words and labels below the size. Answers a number, 0 to 6,
+ * 9 or 255, and 256 times the line that was refused. A load sets the words of the gates that no line names to 0. */
 uint64_t jennydusk_load(const uint8_t *text, size_t text_length, uint32_t *words, size_t words_length, uint8_t *labels,
                         size_t labels_length, uint64_t *record, size_t record_length);
 
@@ -115,7 +117,7 @@ uint64_t jennydusk_print(const uint64_t *record, size_t record_length, const uin
                          const uint8_t *labels, size_t labels_length, uint8_t *output, size_t output_length);
 
 /* Certifies a text at one label: loads it, and runs it to its end. The certificate goes to its buffer; words and labels
- * hold what the run leaves. Answers a number, 0 to 6 or 255, and 256 times the line that was refused.
+ * hold what the run leaves. Answers a number, 0 to 6, 9 or 255, and 256 times the line that was refused.
  *
  * With JENNYDUSK_NO_BREAK, nothing that is hidden from the label shows at it at any tick; with another cause, at none
  * below JENNYDUSK_TICK. That holds for this text and for every other one of equal size, gates, error pc and limit that is

@@ -3,9 +3,13 @@
 
 #![allow(unsafe_code)]
 
+use crate::ops;
+
 /// As many words as a machine can have: memory of this length is never short.
 pub const WORDS: usize = 2048;
 pub const REGISTERS: usize = 16;
+/// This register is always value 0, label 240. A record in which it isn't is refused.
+pub const ZERO_REGISTER: usize = 0;
 /// An image has at most so many bytes.
 pub const TEXT: usize = 65_535;
 
@@ -259,26 +263,40 @@ impl Machine {
         copy.calls().is_empty()
     }
 
-    /// Whether the next op would give register a or a word another value, were
-    /// their labels the highest, to which all labels flow.
-    pub fn is_stopped_by_a_label(&self, register: usize) -> bool {
-        let mut copy = self.clone();
-        let pc = self.pc() as usize;
-        copy.record[place::LABELS + register] = HIGHEST.into();
-        copy.labels[..self.size()].fill(HIGHEST);
-        copy.labels[pc] = self.labels[pc];
-        copy.step();
-        copy.register(register).value != self.register(register).value || copy.words != self.words
+    /// Whether the next op writes to register a or to a word, be it the value that
+    /// is there already.
+    pub fn writes(&self) -> bool {
+        let a = ops::fields(self.words[self.pc() as usize]).a;
+        self.writes_with_another_a(self.register(a).label)
     }
 
-    /// Whether the next op writes register a or a word, were the value of one
-    /// register another: it then changes nothing for the value alone.
-    pub fn writes_with_another(&self, register: usize, a: usize) -> bool {
+    /// Whether the next op would write to register a or to a word, were their
+    /// labels the highest, to which all labels flow.
+    pub fn writes_under_highest_labels(&self) -> bool {
         let mut copy = self.clone();
-        copy.record[place::VALUES + register] ^= 1;
-        let before = copy.register(a).value;
-        copy.step();
-        copy.register(a).value != before || copy.words != self.words
+        let pc = self.pc() as usize;
+        copy.labels[..self.size()].fill(HIGHEST);
+        copy.labels[pc] = self.labels[pc];
+        copy.writes_with_another_a(HIGHEST)
+    }
+
+    /// Whether the next op writes with another register of this label in a's place.
+    /// Of two values that it may hold, one isn't what is written or written over,
+    /// so that the write shows.
+    fn writes_with_another_a(&self, label: u8) -> bool {
+        [0, 1].into_iter().any(|value| self.clone().changes_with_another_a(Cell { label, value }))
+    }
+
+    /// The op names the other register nowhere else: all else is read as it was.
+    fn changes_with_another_a(mut self, cell: Cell) -> bool {
+        let pc = self.pc() as usize;
+        let another = ops::unnamed_register(self.words[pc]);
+        self.words[pc] = ops::with_a(self.words[pc], another);
+        self.record[place::LABELS + another] = cell.label.into();
+        self.record[place::VALUES + another] = cell.value.into();
+        let words = self.words.clone();
+        self.step();
+        self.register(another).value != cell.value || self.words != words
     }
 
     /// The same state at tick 0 without open calls, and with all the time there is.

@@ -4,6 +4,8 @@
 //! A word is op × 2^24 + a × 2^20 + b × 2^16 + n; c is n's top four bits and d
 //! the next four.
 
+use crate::library::{REGISTERS, ZERO_REGISTER};
+
 /// One op. `operands` says how a source writes them: `a`, `b`, `c` and `d` are
 /// registers, `n` a number, `place` a number that is a place; all else stands
 /// as it is.
@@ -176,6 +178,27 @@ pub fn fields(word: u32) -> Fields {
     }
 }
 
+/// The same word with another register as a.
+pub fn with_a(word: u32, register: usize) -> u32 {
+    let a = Piece::of("a");
+    word - a.encode(a.decode(word)) + a.encode(register as u32)
+}
+
+/// A register that a word doesn't name, whatever its op. It isn't register 0,
+/// which can't hold what one likes.
+pub fn unnamed_register(word: u32) -> usize {
+    let Fields { a, b, c, d, .. } = fields(word);
+    let mut others = (ZERO_REGISTER + 1..REGISTERS).filter(|other| ![a, b, c, d].contains(other));
+    others.next().expect("a word names four registers at most")
+}
+
+/// The register that a word's op is to write or to relabel, if there is one. The
+/// other ops that have a register a read it.
+pub fn destination(word: u32) -> Option<usize> {
+    let Fields { op, a, .. } = fields(word);
+    matches!(op, 1..=9 | 14..=16).then_some(a)
+}
+
 /// The place of a word's op, if its op has one: of the branches.
 pub fn target(word: u32) -> Option<u32> {
     let op = Op::of(word)?;
@@ -223,6 +246,26 @@ mod tests {
         for op in OPS {
             let fewest = op.ticks.split('-').next().and_then(|ticks| ticks.parse().ok());
             assert_eq!(stepped(op.bare()).clock(), fewest.unwrap_or(1), "{}", op.name);
+        }
+    }
+
+    /// Whether the machine changes register a by an op of the registers a, R2 and
+    /// R3, where its check passes and it writes or relabels what differs.
+    fn changes(op: &Op, a: usize) -> bool {
+        let word = with_a(op.bare() + Piece::of("b").encode(2) + Piece::of("c").encode(3), a);
+        let registers = "R,1,240,9\nR,2,240,255\nR,3,240,7\n";
+        let text = format!("M,256,255,0,240,240,100\n{registers}W,0,240,{word}\n");
+        let mut machine = Machine::load(text.as_bytes()).expect("an image");
+        let before = machine.register(a);
+        machine.step();
+        machine.register(a) != before
+    }
+
+    #[test]
+    fn the_machine_changes_the_same_registers() {
+        for op in OPS {
+            assert_eq!(changes(op, 1), destination(op.bare()).is_some(), "{}", op.name);
+            assert!(!changes(op, ZERO_REGISTER), "{}", op.name);
         }
     }
 

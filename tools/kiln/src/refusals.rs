@@ -42,6 +42,7 @@ pub fn cause(text: &[u8], refusal: &Refusal) -> &'static str {
         4 => misplaced(line, before),
         5 => "the pair isn't valid",
         6 => "the memory is shorter than the size",
+        9 => "this is an R line for register 0, which is always 0",
         _ => "the library knows why",
     }
 }

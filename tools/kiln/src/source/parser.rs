@@ -3,6 +3,7 @@
 use super::expression::Expression;
 use super::lexer::{self, Kind, Token};
 use super::{Error, Position, Quoted};
+use crate::labels;
 use crate::ops::{Op, Piece};
 
 pub type Parsed<T> = Result<T, Error>;
@@ -14,6 +15,8 @@ const COMMA: &str = ",";
 const OUTSIDE: &str = "!";
 const REGISTER: char = 'R';
 const REGISTERS: u32 = 16;
+/// The register that no line can give a value or a label.
+const ZERO_REGISTER: &str = "R0";
 const WORD: &str = ".word";
 const SPACE: &str = ".space";
 const BLOCK: &str = ".block";
@@ -34,6 +37,7 @@ pub enum Body<'a> {
     Block(Vec<Given<'a>>),
     Machine(Vec<Given<'a>>),
     Gate(Vec<Given<'a>>),
+    /// None for a register that can't be given, which is an error already.
     Register(Option<u32>, Vec<Given<'a>>),
     Owners(Vec<Meaning<'a>>),
     Set(Meaning<'a>),
@@ -249,12 +253,28 @@ impl<'a> Parser<'a> {
             BLOCK => Body::Block(self.until_end(Parser::given)?),
             ".machine" => Body::Machine(self.until_end(Parser::given)?),
             ".gate" => Body::Gate(self.until_end(Parser::given)?),
-            ".register" => Body::Register(self.register()?, self.until_end(Parser::given)?),
+            ".register" => Body::Register(self.given_register()?, self.until_end(Parser::given)?),
             ".owners" => Body::Owners(self.until_end(Parser::meaning)?),
             ".set" => Body::Set(self.meaning()?),
             ".parameter" => Body::Parameter(self.meaning()?),
             text => return Err(Error::new(directive.at, format!("unknown directive `{text}`"))),
         })
+    }
+
+    /// The register of a line that gives it a value and a label. The loader refuses
+    /// one for register 0, whatever it gives.
+    fn given_register(&mut self) -> Parsed<Option<u32>> {
+        let token = self.peek();
+        let number = self.register()?;
+        if token.text != ZERO_REGISTER {
+            return Ok(number);
+        }
+        let message = format!(
+            "{ZERO_REGISTER} can't be given: it is always value 0, label {}",
+            labels::LOWEST
+        );
+        self.errors.push(Error::new(token.at, message));
+        Ok(None)
     }
 
     /// Values, commas between them.

@@ -4,11 +4,13 @@ use super::lines::HIDDEN;
 use super::sight::Sight;
 use crate::library::{
     Call, Cell, Machine, Pair, CLOCK_SPENT, HALTED, REGISTERS, RUNNING, UPCALL, WHY_LABEL, WHY_PC,
+    ZERO_REGISTER,
 };
-use crate::ops::{self, Fields};
+use crate::ops;
 use std::ops::Range;
 
 const CHECK_FAILS: &str = "! no effect: the check fails";
+const ZERO_REGISTER_STAYS: &str = "! no effect: register 0 never changes";
 
 /// Every change but that of the clock, and of the pc by 1.
 pub fn between(before: &Machine, after: &Machine, sight: &Sight) -> Vec<String> {
@@ -117,26 +119,23 @@ fn end(machine: &Machine) -> Option<String> {
 
 /// What is told of a step that changes nothing but pc and clock.
 pub fn without_effect(before: &Machine) -> &'static str {
-    if let Some(told) = passed_by(before) {
-        return told;
-    }
-    let Fields { a, c, .. } = ops::fields(before.word(before.pc() as usize).value);
-    if before.is_stopped_by_a_label(a) {
-        return CHECK_FAILS;
-    }
-    match before.writes_with_another(a, a) || before.writes_with_another(c, a) {
-        true => "the same value",
-        false => "! no effect",
+    match passed_by(before) {
+        Some(told) => told,
+        None if before.writes() => "the same value",
+        None if before.writes_under_highest_labels() => CHECK_FAILS,
+        None => "! no effect",
     }
 }
 
-/// What is told of a branch or jump that doesn't go; nothing of other ops. The
-/// labels that such a check reads flow to the pc label or it fails, so whoever
-/// sees the control may know.
+/// What is told of a branch or jump that doesn't go, and of an op that would
+/// change register 0; nothing of other ops. The labels that a branch's check
+/// reads flow to the pc label or it fails, and the word does since it was
+/// fetched, so whoever sees the control may know.
 pub fn passed_by(before: &Machine) -> Option<&'static str> {
     let word = before.word(before.pc() as usize).value;
     match ops::target(word) {
         _ if before.fails_in_an_upcall() => Some(CHECK_FAILS),
+        _ if ops::destination(word) == Some(ZERO_REGISTER) => Some(ZERO_REGISTER_STAYS),
         None => None,
         Some(place) if place == before.pc() + 1 => Some("to the next word in either case"),
         Some(_) => Some("not taken"),
