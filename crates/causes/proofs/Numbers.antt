@@ -6,7 +6,7 @@ use mathlib.Core.Bool.{true, cond, false≢true}
 use native.Mathlib.Omega.{arith}
 use lib.Dec.{eqb}
 use Rattle.causes.specs.declared.Cause.{Cause}
-use Rattle.causes.specs.declared.Cause.the-variants.{TextLength, MalformedLine, OutOfRange, OutOfOrder, InvalidPair, ShortMemory, IllFormed, ShortOutput, ZeroRegister}
+use Rattle.causes.specs.declared.Cause.the-variants.{TextLength, MalformedLine, OutOfRange, OutOfOrder, InvalidPair, ShortMemory, IllFormed, ShortOutput, ZeroRegister, TickAboveLimit}
 use Rattle.causes.specs.declared.Outcome.{Outcome}
 use Rattle.causes.specs.declared.Outcome.the-variants.{Done, Refused}
 use Rattle.causes.specs.Causes.{numberOf, isDone}
@@ -21,7 +21,8 @@ outcomeOf n =
     (cond (eqb n 4) (Refused OutOfOrder)
     (cond (eqb n 5) (Refused InvalidPair)
     (cond (eqb n 6) (Refused ShortMemory)
-    (cond (eqb n 7) (Refused IllFormed) (cond (eqb n 8) (Refused ShortOutput) (Refused ZeroRegister)))))))))
+    (cond (eqb n 7) (Refused IllFormed)
+    (cond (eqb n 8) (Refused ShortOutput) (cond (eqb n 9) (Refused ZeroRegister) (Refused TickAboveLimit))))))))))
 
 -- Every outcome is the one of its number.
 outcome-of-number : (o : Outcome) → outcomeOf (numberOf o) ≡ o
@@ -36,6 +37,7 @@ outcome-of-number (Refused ShortMemory) = refl
 outcome-of-number (Refused IllFormed) = refl
 outcome-of-number (Refused ShortOutput) = refl
 outcome-of-number (Refused ZeroRegister) = refl
+outcome-of-number (Refused TickAboveLimit) = refl
 
 -- No two outcomes have one number.
 pub same-outcome : (o o′ : Outcome) → numberOf o ≡ numberOf o′ → o ≡ o′
@@ -53,6 +55,7 @@ small-number (Refused ShortMemory) = omega arith
 small-number (Refused IllFormed) = omega arith
 small-number (Refused ShortOutput) = omega arith
 small-number (Refused ZeroRegister) = omega arith
+small-number (Refused TickAboveLimit) = omega arith
 
 -- No refusal is done.
 pub done-or-refused {ℓ} : {P : Type ℓ} {o : Outcome} {c : Cause} → o ≡ Done → o ≡ Refused c → P

@@ -23,9 +23,11 @@ pub enum Cause {
     ShortOutput,
     // An R line for register 0.
     ZeroRegister,
+    // The tick of a view is above the limit.
+    TickAboveLimit,
 }
 
-// How a call of load, step, run or print ended: it was carried out, or refused.
+// How a call of load, step, run, print or view ended: it was carried out, or refused.
 pub enum Outcome {
     Done,
     Refused(Cause),
@@ -46,6 +48,7 @@ impl Cause {
             Cause::IllFormed => 7,
             Cause::ShortOutput => 8,
             Cause::ZeroRegister => 9,
+            Cause::TickAboveLimit => 10,
         }
     }
 }

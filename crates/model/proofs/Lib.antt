@@ -5,8 +5,10 @@ pub mod Legal
 pub mod WellFormed
 pub mod Step
 pub mod Run
+pub mod RunTo
 pub mod Load
 pub mod Program
 pub mod Facts
 pub mod Noninterference
+pub mod View
 pub mod Certificate

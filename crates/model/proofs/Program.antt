@@ -5,19 +5,15 @@ use Prim.Native.Nat.{ℕ}
 use mathlib.Core.Path.{_≡_}
 use mathlib.Core.Bool.{true}
 use mathlib.Core.List.{List}
-use lib.Dec.{leb}
-use lib.ListN.{length}
-use Rattle.causes.specs.declared.Cause.the-variants.{ShortOutput}
 use Rattle.causes.specs.declared.Outcome.the-variants.{Done}
-use Rattle.causes.specs.Tests.{unless}
 use Rattle.labels.specs.Label.{lowest}
 use Rattle.model.specs.Numbers.{zeroRegister}
 use Rattle.model.specs.Record.{Bank, State, register, valueAt, labelAt, machineOf}
 use Rattle.model.specs.WellFormed.{lentWhole}
-use Rattle.model.specs.Step.{steps, run}
-use Rattle.model.specs.Answer.{answer, done, runAnswer}
+use Rattle.model.specs.Step.{steps, run, runTo}
+use Rattle.model.specs.Answer.{answer, done, runAnswer, runToAnswer}
 use Rattle.model.specs.Load.{load}
-use Rattle.model.specs.Listing.{listing, notPrinted, printed, print}
+use Rattle.model.specs.Listing.{listingFor, listed, printFor}
 use Rattle.model.specs.Program.{stateOfLoad}
 use Rattle.model.proofs.Ready.{fits, whole-lent, Ready, zero-reads}
 use Rattle.model.proofs.Run.{steps-ready, run-ready}
@@ -32,13 +28,16 @@ pub run-done : (s : State) → Ready s → runAnswer (machineOf s) (s .memory) �
 unfolding answer
 run-done s r = rw (fits (machineOf s) (r .fit), lent s r)
 
--- A ready state is printed unless the output is too short.
-pub print-done : (s : State) (out : List ℕ) → Ready s
-    → print (machineOf s) (s .memory) out
-    ≡ unless (leb (length (listing s)) (length out)) (notPrinted ShortOutput (machineOf s) out)
-    (printed (machineOf s) (listing s) out)
-unfolding print
-print-done s out r = rw (fits (machineOf s) (r .fit), lent s r)
+-- So is it run to a tick.
+pub run-to-done : (k : ℕ) (s : State) → Ready s → runToAnswer k (machineOf s) (s .memory) ≡ done (runTo k s)
+unfolding answer
+run-to-done k s r = rw (fits (machineOf s) (r .fit), lent s r)
+
+-- A ready state is printed for a label unless the output is too short.
+pub print-done : (ℓ : ℕ) (s : State) (out : List ℕ) → Ready s
+    → printFor ℓ (machineOf s) (s .memory) out ≡ listed (machineOf s) (listingFor ℓ s) out
+unfolding printFor
+print-done ℓ s out r = rw (fits (machineOf s) (r .fit), lent s r)
 
 -- The state that an accepted load leaves is ready, and so is the one after its run.
 pub load-ready : (text : List ℕ) (m : Bank) → load text m .outcome ≡ Done → Ready (stateOfLoad (load text m))

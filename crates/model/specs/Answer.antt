@@ -1,16 +1,17 @@
 -- What the public calls step and run answer, for every record and every length of lent memory: document 01, "Text", the
 -- rows 6 and 7 of its table.
 -- Assumes nothing.
+use Prim.Native.Nat.{ℕ}
 use Rattle.causes.specs.declared.Cause.{Cause}
 use Rattle.causes.specs.declared.Cause.the-variants.{ShortMemory, IllFormed}
 use Rattle.causes.specs.declared.Outcome.{Outcome}
 use Rattle.causes.specs.declared.Outcome.the-variants.{Done, Refused}
 use Rattle.causes.specs.Tests.{unless}
 use Rattle.model.specs.declared.Request.{Request}
-use Rattle.model.specs.declared.Request.the-variants.{Step, Run}
+use Rattle.model.specs.declared.Request.the-variants.{Step, Run, RunTo}
 use Rattle.model.specs.Record.{Bank, Machine, State, machineOf, stateOf}
 use Rattle.model.specs.WellFormed.{wellFormed, lentWhole}
-use Rattle.model.specs.Step.{step, run}
+use Rattle.model.specs.Step.{step, run, runTo}
 
 -- The answer of a call: its outcome; the record; and the lent memory at exit.
 pub record Answer : Type 0 where
@@ -32,10 +33,11 @@ answer f r m =
     unless (wellFormed r) (refused IllFormed r m)
     (unless (lentWhole (r .fixed .size) m) (refused ShortMemory r m) (done (f (stateOf r m))))
 
--- What a call asks for: one step, or the run.
+-- What a call asks for: one step, the run, or the run to a tick.
 abbrev pub work : Request → State → State
 work Step = step
 work Run = run
+work (RunTo k) = runTo k
 
 -- The answer of a call.
 abbrev pub answerOf : Request → Machine → Bank → Answer
@@ -48,3 +50,7 @@ stepAnswer = answerOf Step
 -- The answer of run.
 abbrev pub runAnswer : Machine → Bank → Answer
 runAnswer = answerOf Run
+
+-- The answer of a run to tick k.
+abbrev pub runToAnswer : ℕ → Machine → Bank → Answer
+runToAnswer k = answerOf (RunTo k)

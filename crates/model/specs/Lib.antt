@@ -1,6 +1,6 @@
 -- The machine of document 01, in the paper's order: its numbers by name, the record, when it is well-formed, a word of the
--- program, the op table, one step and the run, what the public calls answer, the text and its load, the listing, and what
--- the programs print.
+-- program, the op table, one step and the run, what the public calls answer, the text and its load, what a label sees, the
+-- listing, and what the programs print.
 pub mod Numbers
 pub mod Record
 pub mod WellFormed
@@ -10,11 +10,13 @@ pub mod Step
 pub mod Answer
 pub mod Text
 pub mod Load
+pub mod Seen
 pub mod Listing
 pub mod Program
--- ======== Here the definition of the machine ends. Everything else, here and in proofs/, is derived from it.
+-- ======== Here the definition of the machine ends. Everything else, here and in proofs/, is derived from it. View puts load,
+-- the run to a tick and the listing for a label together, and states what its viewer is promised.
 pub mod Facts
-pub mod Seen
 pub mod Noninterference
+pub mod View
 pub mod Certificate
 pub mod Inner

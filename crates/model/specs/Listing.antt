@@ -1,11 +1,13 @@
--- The listing of a record and its memory, and what print answers: document 01, "Text", the second paragraph and the rows
--- 6 to 8 of its table.
+-- The listing of a record and its memory for one viewer's label, and what print answers: document 01, "Text", the second
+-- paragraph and the rows 6 to 8 of its table. A listing is written from what the label sees and from nothing else. Print's
+-- is the one of the highest label, to which every label flows.
 -- Assumes nothing.
 use Prim.Native.Nat.{ℕ, zero, suc, _+_, _/_, _%_}
 use mathlib.Core.Bool.{Bool, not, cond}
 use mathlib.Core.List.{List, [], _∷_, _++_}
 use lib.Dec.{leb, ltb}
-use lib.ListN.{length, drop, getD}
+use lib.ListN.{length, drop}
+use Rattle.labels.specs.Label.{highest}
 use Rattle.causes.specs.declared.Cause.{Cause}
 use Rattle.causes.specs.declared.Cause.the-variants.{ShortMemory, IllFormed, ShortOutput}
 use Rattle.causes.specs.declared.Outcome.{Outcome}
@@ -15,9 +17,10 @@ use Rattle.model.specs.declared.Pair.{Pair}
 use Rattle.model.specs.declared.Control.{Control}
 use Rattle.model.specs.declared.Call.{Call}
 use Rattle.model.specs.declared.Call.the-variants.{Empty, Gate, Upcall}
-use Rattle.model.specs.Record.{Bank, Machine, State, stateOf}
+use Rattle.model.specs.Record.{Bank, Machine, State, stateOf, register, word}
 use Rattle.model.specs.WellFormed.{isBlank, wellFormed, lentWhole}
-use Rattle.model.specs.Numbers.{comma, lf, digitZero, letterE, letterF, letterR, letterW, gateKind, upcallKind, registerCount}
+use Rattle.model.specs.Numbers.{comma, lf, digitZero, letterE, letterF, letterH, letterR, letterW, gateKind, upcallKind, registerCount, mostWords}
+use Rattle.model.specs.Seen.{Seen, hidden, shown, seenAt, SeenControl, unseen, seen, seenControl}
 
 -- ---- a line
 
@@ -59,6 +62,11 @@ callLine (Upcall k q e) = line letterF (callFields upcallKind k q e)
 unfoldable pub headLines : Control → List ℕ
 headLines c = (line letterE (endFields c) ++ callLine (c .first)) ++ callLine (c .second)
 
+-- The same for what is seen of the control: where that is nothing, a line `H` stands for them.
+abbrev pub headFor : SeenControl → List ℕ
+headFor unseen = line letterH []
+headFor (seen c) = headLines c
+
 -- An entry with this label and value has a line: it differs from value 0, label 240.
 unfoldable pub isListed : ℕ → ℕ → Bool
 isListed label value = not (isBlank label value)
@@ -67,16 +75,26 @@ isListed label value = not (isBlank label value)
 unfoldable pub entryLine : ℕ → ℕ → ℕ → ℕ → List ℕ
 entryLine letter k label value = cond (isListed label value) (line letter (k ∷ label ∷ value ∷ [])) []
 
--- The lines of n entries from k on.
-unfoldable pub entryLines : ℕ → Bank → ℕ → ℕ → List ℕ
-entryLines letter b k zero = []
-entryLines letter b k (suc n) =
-    entryLine letter k (getD (b .labels) k 0) (getD (b .values) k 0) ++ entryLines letter b (k + 1) n
+-- The same for what is seen of the entry.
+abbrev pub entryFor : ℕ → ℕ → Seen → List ℕ
+entryFor letter k hidden = []
+entryFor letter k (shown label value) = entryLine letter k label value
 
--- The listing: the E line and the F lines, then R lines and W lines.
-unfoldable pub listing : State → List ℕ
-listing s =
-    (headLines (s .control) ++ entryLines letterR (s .registers) 0 registerCount) ++ entryLines letterW (s .memory) 0 (s .fixed .size)
+-- The lines of n entries from k on, by what is seen of each.
+unfoldable pub entryLines : ℕ → (ℕ → Seen) → ℕ → ℕ → List ℕ
+entryLines letter sight k zero = []
+entryLines letter sight k (suc n) = entryFor letter k (sight k) ++ entryLines letter sight (k + 1) n
+
+-- The listing for the label ℓ: the E line and the F lines, then R lines and W lines, all of what ℓ sees. It sees no word at
+-- or beyond the size.
+unfoldable pub listingFor : ℕ → State → List ℕ
+listingFor ℓ s =
+    (headFor (seenControl ℓ s) ++ entryLines letterR (λ k. seenAt ℓ s (register k)) 0 registerCount)
+    ++ entryLines letterW (λ k. seenAt ℓ s (word k)) 0 mostWords
+
+-- The listing: that of the highest label, which sees everything.
+abbrev pub listing : State → List ℕ
+listing s = listingFor highest s
 
 -- ---- the answer
 
@@ -95,11 +113,16 @@ notPrinted cause r out = record { outcome = Refused cause; machine = r; bytes = 
 abbrev pub printed : Machine → List ℕ → List ℕ → Printing
 printed r text out = record { outcome = Done; machine = r; bytes = length text; output = text ++ drop (length text) out }
 
--- Print: 7 where the record is not fit, 6 where lent words or labels are shorter than the size, 8 where the output is
--- shorter than the listing.
-unfoldable pub print : Machine → Bank → List ℕ → Printing
-print r m out =
-    let text = listing (stateOf r m) in
+-- 8 where the output is shorter than the listing.
+unfoldable pub listed : Machine → List ℕ → List ℕ → Printing
+listed r text out = unless (leb (length text) (length out)) (notPrinted ShortOutput r out) (printed r text out)
+
+-- Print for the label ℓ: 7 where the record is not fit, 6 where lent words or labels are shorter than the size, then 8.
+unfoldable pub printFor : ℕ → Machine → Bank → List ℕ → Printing
+printFor ℓ r m out =
     unless (wellFormed r) (notPrinted IllFormed r out)
-    (unless (lentWhole (r .fixed .size) m) (notPrinted ShortMemory r out)
-    (unless (leb (length text) (length out)) (notPrinted ShortOutput r out) (printed r text out)))
+    (unless (lentWhole (r .fixed .size) m) (notPrinted ShortMemory r out) (listed r (listingFor ℓ (stateOf r m)) out))
+
+-- Print.
+abbrev pub print : Machine → Bank → List ℕ → Printing
+print r m out = printFor highest r m out

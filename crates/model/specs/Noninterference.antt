@@ -11,10 +11,10 @@ use lib.Seq.{sets}
 use Rattle.causes.specs.declared.Outcome.the-variants.{Done}
 use Rattle.causes.specs.Causes.{isDone}
 use Rattle.model.specs.declared.Request.{Request}
-use Rattle.model.specs.declared.Request.the-variants.{Step, Run}
+use Rattle.model.specs.declared.Request.the-variants.{Step, Run, RunTo}
 use Rattle.model.specs.Record.{Bank, State, Location, machineOf, stateOf, lent, labelAt}
 use Rattle.model.specs.Ops.{Change, write, goto, enter, openUpcall, openGate, closeGate, stop, noGate}
-use Rattle.model.specs.Step.{Decision, rest, spend, stall, close, carry, running, decide, step}
+use Rattle.model.specs.Step.{Decision, rest, spend, stall, close, carry, running, decide, step, finishesBy}
 use Rattle.model.specs.Answer.{Answer, answerOf}
 use Rattle.model.specs.Load.{Loading, load}
 use Rattle.model.specs.Program.{stateOfLoad}
@@ -28,7 +28,7 @@ pub data Lent : Type 0 where
   whole : Lent
   part : ℕ → ℕ → Lent
 
--- A call, of step or of run, with what it is lent of the words and of the labels.
+-- A call, of step, of run or of run to a tick, with what it is lent of the words and of the labels.
 pub record Invocation : Type 0 where
   pub request : Request
   pub words : Lent
@@ -64,15 +64,17 @@ afterAll (q ∷ qs) s = afterAll qs (after q s)
 
 -- ---- the states of a sequence
 
--- The states after the steps that a run does, as it steps until the end isn't 0: so many at the most.
-unfoldable pub runStates : ℕ → State → List State
-runStates zero s = []
-runStates (suc k) s = let more = step s ∷ runStates k (step s) in cond (running s) more []
+-- The states after the steps that are done for as long as this holds: so many at the most.
+unfoldable pub runStates : (State → Bool) → ℕ → State → List State
+runStates more zero s = []
+runStates more (suc n) s = let rest = step s ∷ runStates more n (step s) in cond (more s) rest []
 
--- The states after the steps that a call does: a step does one, a run as many as it does.
+-- The states after the steps that a call does: a step does one; a run steps until the end isn't 0; a run to tick k does so
+-- as long as the steps finish by k.
 unfoldable pub workStates : Request → State → List State
 workStates Step s = step s ∷ []
-workStates Run s = runStates (s .fixed .limit - s .control .clock + 1) s
+workStates Run s = runStates running (s .fixed .limit - s .control .clock + 1) s
+workStates (RunTo k) s = runStates (λ t. running t && finishesBy k t) (s .fixed .limit - s .control .clock + 1) s
 
 -- The states that a call adds to the trace: a refused one adds none.
 unfoldable pub callStates : Invocation → State → List State

@@ -110,6 +110,10 @@ letterE = 69
 abbrev pub letterF : ℕ
 letterF = 70
 
+-- The line of a listing for one viewer that stands for the E and F lines, where the viewer doesn't see them.
+abbrev pub letterH : ℕ
+letterH = 72
+
 -- The line of a refused text.
 abbrev pub letterX : ℕ
 letterX = 88

@@ -1,10 +1,10 @@
--- One step and the run: document 01, "One step". A step has two stages. The first decides: it reads the state, changes
+-- One step, the run, and the run to a tick: document 01, "One step". A step has two stages. The first decides: it reads the state, changes
 -- nothing, and says what would happen and at which clock that would finish. The second applies the decision.
 -- Assumes nothing.
 use Prim.Native.Nat.{ℕ, zero, suc, _+_, _-_}
 use mathlib.Core.Bool.{Bool, true, false, _&&_, _||_, cond}
 use mathlib.Core.Option.{Option, none, some}
-use lib.Dec.{ltb, eqb}
+use lib.Dec.{leb, ltb, eqb}
 use lib.ListN.{set}
 use Rattle.labels.specs.Label.{flows}
 use Rattle.causes.specs.Tests.{unless}
@@ -241,3 +241,23 @@ steps (suc k) s = steps k (step s)
 -- enough, and an ended record steps to itself.
 unfoldable pub run : State → State
 run s = steps (s .fixed .limit - s .control .clock + 1) s
+
+-- ---- the run to a tick
+
+-- The step finishes at or before tick k. One of an ended record finishes at its clock.
+unfoldable pub finishesBy : ℕ → State → Bool
+finishesBy k s = leb (finish s (decide s)) k
+
+-- The step if it finishes by k, else nothing.
+unfoldable pub stepBy : ℕ → State → State
+stepBy k s = cond (finishesBy k s) (step s) s
+
+-- So many of them.
+unfoldable pub stepsBy : ℕ → ℕ → State → State
+stepsBy k zero s = s
+stepsBy k (suc n) s = stepsBy k n (stepBy k s)
+
+-- A run to tick k does every step that finishes at or before k, and none that finishes later. As many as a run can take
+-- are enough.
+unfoldable pub runTo : ℕ → State → State
+runTo k s = stepsBy k (s .fixed .limit - s .control .clock + 1) s

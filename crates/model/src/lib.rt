@@ -26,10 +26,11 @@ pub enum Call {
     Upcall(u32, Pair, u64),
 }
 
-// What a call asks of the machine: one step, or the run.
+// What a call asks of the machine: one step, the run, or the run to a tick.
 pub enum Request {
     Step,
     Run,
+    RunTo(u64),
 }
 
 // What no step changes.

@@ -1,2 +1,3 @@
 pub mod WitnessFacts
 pub mod CertificateFacts
+pub mod ViewFacts

@@ -13,7 +13,7 @@ use borrow.Author.Tests.{ltb-true, eqb-true, eqb-false, eq-eqb, le-leb}
 use Rattle.model.specs.declared.Pair.{Pair}
 use Rattle.model.specs.declared.Call.{Call}
 use Rattle.model.specs.declared.Call.the-variants.{Empty, Gate, Upcall}
-use Rattle.labels.specs.Principals.{label, meet}
+use Rattle.labels.specs.Principals.{label, meet, highest}
 use Rattle.model.specs.Record.{State, Location, register, word}
 use Rattle.model.specs.Ops.{noGate, table}
 use Rattle.model.specs.Step.{running, step, steps}
@@ -272,7 +272,7 @@ counterexample ℓ k s t qs met l m e p q =
 
 -- All that a table computes with, beyond a step. Who says `unfolding computing` opens each of them.
 unfoldable pub computing : Bool
-unfolding stepping answer within exists seenAt seenControl lend regain answered after runStates workStates callStates trace final atTick reached downgrades gateCallsIn timedFromOutside sameSeen samePair sameCall sameControl sameSeenControl isDigit digits decimalFrom wellWritten number field readFields fieldCount lineOf readLine linesIn lines headerInRange gateInRange entryInRange inOrder rising headerTests lineTests firstRefusal judge judgeHeader judgeText cleared fill load decimalIn decimal fields line headLines isListed entryLine entryLines
+unfolding stepping highest answer within exists seenAt seenControl lend regain answered after runStates workStates callStates trace final atTick reached downgrades gateCallsIn timedFromOutside sameSeen samePair sameCall sameControl sameSeenControl isDigit digits decimalFrom wellWritten number field readFields fieldCount lineOf readLine linesIn lines headerInRange gateInRange entryInRange inOrder rising headerTests lineTests firstRefusal judge judgeHeader judgeText cleared fill load decimalIn decimal fields line headLines isListed entryLine entryLines
 computing = true
 
 -- The two machines of the main witness differ as their table says, at a sound label and at one that isn't.

@@ -8,7 +8,7 @@ use mathlib.Core.Bool.{Bool, true, false, not, _&&_, _||_}
 use mathlib.Core.List.{List, [], _∷_, _++_}
 use lib.Dec.{leb, eqb}
 use lib.ListN.{length, take, replicate}
-use Rattle.labels.specs.Label.{uncompromised, lowest}
+use Rattle.labels.specs.Label.{uncompromised, lowest, highest}
 use Rattle.causes.specs.declared.Outcome.the-variants.{Done}
 use Rattle.model.specs.declared.Pair.{Pair}
 use Rattle.model.specs.declared.CallGate.{CallGate}
@@ -126,8 +126,8 @@ abbrev pub textOf : State → List ℕ
 textOf s =
     line 77
     (s .fixed .size ∷ s .fixed .errorpc ∷ s .control .pc ∷ s .control .pair .pc ∷ s .control .pair .timing ∷ s .fixed .limit ∷ [])
-    ++ gateLines (s .fixed .count) (s .fixed .gates) ++ entryLines 82 (s .registers) 0 16
-    ++ entryLines 87 (s .memory) 0 (s .fixed .size)
+    ++ gateLines (s .fixed .count) (s .fixed .gates) ++ entryLines 82 (λ k. seenAt highest s (register k)) 0 16
+    ++ entryLines 87 (λ k. seenAt highest s (word k)) 0 (s .fixed .size)
 
 -- Load accepts that text, lent the state's own memory, and leaves the state.
 abbrev pub Loads : State → Type 0

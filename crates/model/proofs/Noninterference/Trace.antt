@@ -4,7 +4,7 @@
 use Prim.Native.Nat.{ℕ, zero, suc, _+_, _-_, _<_, _≤_, min}
 use mathlib.Core.Path.{_≡_, refl, sym, ap, ap₂, _∙_, subst}
 use mathlib.Core.Logic.{inl, inr, ⊎-elim}
-use mathlib.Core.Bool.{true, false, and-false}
+use mathlib.Core.Bool.{true, false, _&&_, and-false}
 use mathlib.Core.List.{List, [], _∷_, _++_}
 use native.Mathlib.Nat.{zero-add, suc-add, lt-of-lt-of-le, min-le-right, min-le-left}
 use native.Mathlib.Omega.{arith}
@@ -13,10 +13,10 @@ use lib.ListN.{length, take, drop, length-take, drop-of-length-le}
 use lib.Seq.{sets, set-getD, drop-cons}
 use borrow.Author.Tests.{leb-true, leb-false, ltb-true, ltb-false, le-ltb, lt-leb}
 use Rattle.model.specs.declared.Request.{Request}
-use Rattle.model.specs.declared.Request.the-variants.{Step, Run}
+use Rattle.model.specs.declared.Request.the-variants.{Step, Run, RunTo}
 use Rattle.model.specs.Record.{Bank, State, machineOf, lent}
 use Rattle.model.specs.WellFormed.{lentWhole}
-use Rattle.model.specs.Step.{running, step, steps, run}
+use Rattle.model.specs.Step.{running, step, steps, run, finishesBy, stepsBy, runTo}
 use Rattle.causes.specs.declared.Cause.the-variants.{ShortMemory}
 use Rattle.model.specs.Answer.{answer, refused, done, work}
 use Rattle.model.specs.Noninterference.{Lent, whole, part, Invocation, lend, regain, answered, after, afterAll, runStates, workStates, callStates, trace, final, atTick, reached, StepsProvisos}
@@ -24,6 +24,7 @@ use Rattle.model.proofs.Truth.{either, not-iff}
 use Rattle.model.proofs.Ready.{fits, whole-lent, Ready}
 use Rattle.model.proofs.Step.{step-ready, step-passes}
 use Rattle.model.proofs.Run.{steps-ended, steps-add, steps-ready}
+use Rattle.model.proofs.RunTo.{late-stays, ended-stays, timely-goes}
 use Rattle.model.proofs.Noninterference.Paths.{Allowed, Rests}
 
 -- ---- so many steps in a row
@@ -54,7 +55,7 @@ pub record Row (s : State) (xs : List State) (t : State) : Type 0 where
 -- ---- one call
 
 -- A run's states are so many steps in a row.
-run-row : (n : ℕ) (s : State) → Row s (runStates n s) (steps n s)
+pub run-row : (n : ℕ) (s : State) → Row s (runStates running n s) (steps n s)
 unfolding runStates steps
 run-row zero s = record { count = 0; states = refl; last = refl }
 run-row (suc n) s =
@@ -65,11 +66,28 @@ run-row (suc n) s =
     (λ (r : running s ≡ false). record { count = 0; states = rw r; last = steps-ended (suc n) s r })
     (either (running s))
 
+-- So are those of a run to a tick.
+run-to-row : (k n : ℕ) (s : State) → Row s (runStates (λ t. running t && finishesBy k t) n s) (stepsBy k n s)
+unfolding runStates steps stepsBy
+run-to-row k zero s = record { count = 0; states = refl; last = refl }
+run-to-row k (suc n) s =
+    ⊎-elim
+    (λ (r : running s ≡ true).
+    ⊎-elim
+    (λ (e : finishesBy k s ≡ true).
+    let h = run-to-row k n (step s) in
+    record { count = suc (h .count); states = rw (r, e) (ap (λ xs. step s ∷ xs) (h .states)); last = timely-goes k n s e ∙ h .last })
+    (λ (e : finishesBy k s ≡ false). record { count = 0; states = rw (r, e); last = late-stays k (suc n) s e })
+    (either (finishesBy k s)))
+    (λ (r : running s ≡ false). record { count = 0; states = rw r; last = ended-stays k (suc n) s r })
+    (either (running s))
+
 -- What a call does is so many steps in a row.
 work-row : (k : Request) (s : State) → Row s (workStates k s) (work k s)
-unfolding workStates run steps
+unfolding workStates run steps runTo
 work-row Step s = record { count = 1; states = refl; last = refl }
 work-row Run s = run-row (s .fixed .limit - s .control .clock + 1) s
+work-row (RunTo k) s = run-to-row k (s .fixed .limit - s .control .clock + 1) s
 
 -- A part that is lent is shorter than the size.
 part-short : (size from count : ℕ) (xs : List ℕ) → 1 ≤ size → length (lend size (part from count) xs) < size
@@ -108,7 +126,7 @@ unfolding answered answer
 answer-short q s r e = rw (fits (machineOf s) (r .fit), e)
 
 -- The answer of a call that is lent all.
-answer-whole : (k : Request) (s : State) → Ready s
+pub answer-whole : (k : Request) (s : State) → Ready s
     → answered (record { request = k; words = whole; labels = whole }) s ≡ done (work k s)
 unfolding answered answer lend
 answer-whole k s r = rw (fits (machineOf s) (r .fit), whole-lent _ (s .memory) (r .words) (r .labels))
@@ -181,7 +199,7 @@ trace-last qs s r =
 -- ---- the state at a reached tick
 
 -- Past k no state is taken.
-past : (k m : ℕ) (s x : State) → Ready x → k < x .control .clock → atTick k s (path m x) ≡ s
+pub past : (k m : ℕ) (s x : State) → Ready x → k < x .control .clock → atTick k s (path m x) ≡ s
 unfolding atTick
 past k zero s x r h = refl
 past k (suc m) s x r h =
