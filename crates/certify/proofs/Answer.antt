@@ -1,13 +1,11 @@
 -- From what load, the watch and the line writer promise to the answers.
 -- Assumes nothing.
 use Prim.Native.Nat.{ℕ, _≤_}
-use mathlib.Core.Path.{_≡_, refl, sym, ap, _∙_, subst}
+use mathlib.Core.Path.{_≡_, sym, ap, _∙_, subst}
 use mathlib.Core.Bool.{false}
 use mathlib.Core.List.{List, [], _∷_}
 use native.Mathlib.Omega.{arith}
-use lib.ListN.{length, take, drop, length-append}
-use lib.Seq.{take-append-seam}
-use borrow.Author.Tests.{le-leb}
+use lib.ListN.{length, take}
 use Rattle.causes.specs.declared.Outcome.the-variants.{Done}
 use Rattle.causes.specs.Causes.{numberOf, isDone}
 use Rattle.model.specs.Numbers.{letterV, letterX}
@@ -19,8 +17,9 @@ use Rattle.model.specs.Certificate.{whole, Certifying, certifying, verdictLine,
 use Rattle.model.proofs.Ready.{Ready}
 use Rattle.model.proofs.Program.{load-ready}
 use Rattle.engine.specs.Inner.Drive.{InRanges}
-use Rattle.writer.specs.Writing.{Writing, answer, over, writing, written}
-use Rattle.texts.proofs.Fields.{line-most}
+use Rattle.writer.specs.Writing.{Writing, answer, over, writing}
+use Rattle.writer.proofs.Answer.{line-whole}
+use Rattle.texts.proofs.Buffer.{front-counts}
 use Rattle.certify.specs.declared.Certificate.{Certificate}
 use Rattle.certify.specs.Certified.{certificateOf}
 use Rattle.certify.specs.Inner.Watch.{Watched}
@@ -80,21 +79,11 @@ module _ (ℓ : ℕ) (text out : List ℕ) (room : 128 ≤ length out) (a : Cert
   -- It was written whole, since there is room for each.
   pub alone-wrote : (letter : ℕ) (ns : List ℕ) {n : ℕ} {o : List ℕ} → verdictLine a ≡ line letter ns → length ns ≤ 3
       → answer n o ≡ writing letter ns out → record { bytes = n; output = o } ≡ certifyAlone ℓ text out
-  unfolding certifyAlone writing written over
-  alone-wrote letter ns {n} {o} v few w = ap wrote whole ∙ rw (← e, v)
-    where
-      whole : answer n o ≡ answer (length (line letter ns)) (over (line letter ns) out)
-      whole =
-          w
-          ∙ rw (
-            le-leb (length ns) 6 (omega arith),
-            le-leb (length (line letter ns)) (length out) (omega (arith, line-most letter ns)),
-          )
+  unfolding certifyAlone over
+  alone-wrote letter ns v few w = ap wrote (line-whole letter ns out (omega arith) w room) ∙ rw (← e, v)
 
 -- The bytes that were written count bytes of the output.
 pub alone-counts : (ℓ : ℕ) (text out : List ℕ) (r : Replied) → r ≡ certifyAlone ℓ text out
     → (r .bytes ≤ length (r .output)) × (r .bytes ≡ length (take (r .bytes) (r .output)))
 unfolding certifyAlone
-alone-counts ℓ text out r e =
-    let o = verdictLine (certifying ℓ text programMemory) in
-    rw (e, take-append-seam o (drop (length o) out), length-append o (drop (length o) out)) (omega arith, refl)
+alone-counts ℓ text out r e = rw e (front-counts (verdictLine (certifying ℓ text programMemory)) out)

@@ -5,6 +5,7 @@ use mathlib.Core.Path.{_≡_, refl, sym, ap, _∙_, subst}
 use mathlib.Core.Logic.{⊎-elim}
 use mathlib.Core.Bool.{Bool, true, false, _&&_, cond}
 use mathlib.Core.List.{List}
+use native.Mathlib.Nat.{le-refl}
 use native.Mathlib.Omega.{arith}
 use lib.Dec.{ltb, eqb}
 use lib.ListN.{length}
@@ -17,6 +18,7 @@ use Rattle.model.specs.Certificate.{attempts, leadsWithin, whole, breaks, certi
 use Rattle.model.specs.Certificate as model
 use Rattle.model.proofs.Truth.{choice, either, and-iff}
 use Rattle.model.proofs.Run.{steps-ended}
+use Rattle.model.proofs.RunTo.{unbarred}
 use Rattle.engine.specs.declared.steps.drive.Halted.{Halted}
 use Rattle.engine.specs.Skim.{Skim, stride}
 use Rattle.engine.specs.Advance.{stateFrom, strodeFrom, strode, advanced}
@@ -137,11 +139,14 @@ module _ {ℓ : ℕ} {s : State} {fixed : Fixed} {control : Control} {values lab
 
   -- The end: a break was found, or no step is left.
   pub watching-end : {r : Control} {values′ labels′ words′ : List ℕ} → (eqb (found .cause) 0 && ltb 0 left) ≡ false
-      → stateFrom fixed r values′ labels′ words′ marks ≡ advanced left now → Watched ℓ s found words′ marks
+      → stateFrom fixed r values′ labels′ words′ marks ≡ advanced (fixed .limit) left now → Watched ℓ s found words′ marks
   watching-end over e =
       record {
         certificate = sym (h .certificate ∙ all);
-        memory = ap (λ (t : State). t .memory) (e ∙ advanced-there left values labels (h .fit) ∙ sym (h .run));
+        memory =
+            ap (λ (t : State). t .memory)
+            (e ∙ advanced-there (fixed .limit) left values labels (h .fit) ∙ unbarred (fixed .limit) left now (h .fit .clock) (le-refl _)
+            ∙ sym (h .run));
       }
     where
       all : resume ℓ (certificateOf found) left now ≡ certificateOf found

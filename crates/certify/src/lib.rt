@@ -108,7 +108,17 @@ fn watch(label: u8, machine: Machine, words: &mut [u32], marks: &[u8]) -> Certif
         found = first_break(label, opened, attempted, place, control);
         left = steps_left(control.end, halted.left);
     }
-    advance(fixed, control, left, &mut values, &mut labels, words, marks);
+    let end = fixed.limit as u64;
+    advance(
+        fixed,
+        control,
+        left,
+        end,
+        &mut values,
+        &mut labels,
+        words,
+        marks,
+    );
     found
 }
 

@@ -1,12 +1,14 @@
--- Laws about the steps done in turn by the hot loop and by one step of what it stopped at.
+-- Laws about the steps by a tick that are done in turn by the hot loop and by one step of what it stopped at.
 -- Assumes nothing.
-use Prim.Native.Nat.{ℕ, zero, suc, _-_, _≤_, _<_}
+use Prim.Native.Nat.{ℕ, zero, suc, _+_, _-_, _≤_, _<_}
 use mathlib.Core.Path.{_≡_, refl, sym, ap, _∙_, subst}
+use mathlib.Core.Logic.{⊎-elim}
 use mathlib.Core.Bool.{Bool, true, false, _&&_, or-false}
+use native.Mathlib.Nat.{le-refl}
 use mathlib.Core.List.{List, []}
 use native.Mathlib.Omega.{arith}
 use lib.Dec.{ltb, eqb}
-use borrow.Author.Tests.{ne-eqb, eqb-true, eqb-false, leb-true, le-leb}
+use borrow.Author.Tests.{ne-eqb, eqb-true, eqb-false, leb-true, le-leb, lt-leb, ltb-true, ltb-false}
 use lib.ListN.{length}
 use Rattle.model.specs.declared.CallGate.{CallGate}
 use Rattle.model.specs.declared.Fixed.{Fixed}
@@ -14,43 +16,54 @@ use Rattle.model.specs.declared.Control.{Control}
 use Rattle.model.specs.declared.Call.{Call}
 use Rattle.model.specs.Numbers.{mostWords}
 use Rattle.model.specs.Record.{State, lent, endTickOf, newest, inUpcall}
-use Rattle.model.proofs.Truth.{and-iff, or-iff, clash}
+use Rattle.model.proofs.Truth.{choice, and-iff, or-iff, clash}
+use Rattle.model.proofs.Step.{step-ended}
+use Rattle.model.proofs.RunTo.{late-stays, ended-stays, timely-goes, finish-limited, unbarred}
 use Rattle.model.proofs.Ready.{whole-lengths, whole-lent}
-use Rattle.model.specs.Step.{Decision, endTick, running, decide, written, writeOf, controlAfter, apply, withControl, step, steps}
+use Rattle.model.specs.Step.{Decision, endTick, finish, inLimit, running, decide, written, writeOf, controlAfter, apply, withControl, step, finishesBy, stepsBy}
 use Rattle.engine.specs.declared.steps.common.Stop.{Stop}
 use Rattle.engine.specs.declared.steps.common.Stop.the-variants.{Out, Late, Outside, Unreadable, Failed, Rest}
 use Rattle.engine.specs.declared.steps.common.Pause.{Pause}
 use Rattle.engine.specs.declared.steps.common.Context.{Context}
 use Rattle.engine.specs.declared.steps.drive.Halted.{Halted}
+use Rattle.engine.specs.declared.steps.rest.Act.{Act}
 use Rattle.engine.specs.declared.steps.rest.Verdict.{Verdict}
 use Rattle.engine.specs.declared.steps.rest.Verdict.the-variants.{Spend, Stall, Close, Carry}
-use Rattle.engine.specs.Calls.{newestOf}
+use Rattle.engine.specs.Calls.{newestOf, nearer}
 use Rattle.engine.specs.Advance.{stateFrom, fitting, advanced, strode}
 use Rattle.engine.specs.Inner.Common.{view, Timed, Stopped}
 use Rattle.engine.specs.Inner.Sprint.{Paused, Sprinted}
-use Rattle.engine.specs.Inner.Rest.{Ready, Held, Admits, Decided}
+use Rattle.engine.specs.Inner.Rest.{decisionOf, Ready, Held, Admits, planFor, Decided}
 use Rattle.engine.specs.Inner.Apply.{Wrote, controlOf, Controlled}
-use Rattle.engine.specs.Inner.Drive.{contextOf, InRanges, Driven, relabelsAt, endsAt}
+use Rattle.engine.specs.Inner.Drive.{contextOf, InRanges, Driven, relabelsAt, endsAt, finishOf}
 use Rattle.engine.specs.Skim.{Skim, skim, ends, stride}
-use Rattle.engine.proofs.Loop.{steps-one}
-use Rattle.engine.proofs.Skimming.{skim-steps, skim-ended, skim-none, skim-paused, ends-paused, stride-ends, stride-goes, ends-first, ends-none}
+use Rattle.engine.proofs.Skimming.{skim-ended, skim-none, skim-paused, ends-paused, stride-ends, stride-goes, ends-first, ends-none}
+use Rattle.engine.proofs.Nearer.{under, by-skim, Settles, settles}
 
 -- ---- an ended state
 
--- An ended state steps to itself.
-ended-step : (s : State) → 0 < s .control .end → step s ≡ s
-unfolding step decide running apply written writeOf controlAfter
-ended-step s h = rw (ne-eqb (s .control .end) 0 (omega arith))
-
-pub ended-steps : (n : ℕ) (s : State) → 0 < s .control .end → steps n s ≡ s
-unfolding steps
-ended-steps zero s h = refl
-ended-steps (suc n) s h = ap (steps n) (ended-step s h) ∙ ended-steps n s h
+-- A state with an end doesn't run.
+ended : (s : State) → 0 < s .control .end → running s ≡ false
+unfolding running
+ended s h = ne-eqb (s .control .end) 0 (omega arith)
 
 -- No steps.
-steps-none : (s : State) → steps 0 s ≡ s
-unfolding steps
-steps-none s = refl
+none-by : (k : ℕ) (s : State) → stepsBy k 0 s ≡ s
+unfolding stepsBy
+none-by k s = refl
+
+-- One of some steps that finishes by the tick, and the rest of them.
+one-by : (k n : ℕ) (s : State) → 0 < n → finish s (decide s) ≤ k → stepsBy k n s ≡ stepsBy k (n - 1) (step s)
+unfolding finishesBy
+one-by k zero s h e = absurd (omega arith)
+one-by k (suc n) s h e =
+    let m : n ≡ suc n - 1 = omega arith in
+    timely-goes k n s (le-leb (finish s (decide s)) k e) ∙ ap (λ (x : ℕ). stepsBy k x (step s)) m
+
+-- None, where the next finishes past it.
+late-by : (k n : ℕ) (s : State) → k < finish s (decide s) → stepsBy k n s ≡ s
+unfolding finishesBy
+late-by k n s h = late-stays k n s (lt-leb (finish s (decide s)) k h)
 
 -- A step from its decision, its writes and its control.
 step-from : (s s′ : State) (c : Control) {d : Decision} → d ≡ decide s → written s (writeOf s d) ≡ s′ → c ≡ controlAfter s d → step s ≡ withControl s′ c
@@ -81,50 +94,74 @@ admits-held (Stall why) pc clock limit e h = tt
 admits-held (Close cause) pc clock limit e h = tt
 admits-held (Carry k act) pc clock limit e h = h .1
 
+-- The clock that a verdict leaves is where its decision finishes.
+finish-is : (d : Verdict) (s : State) → finish s (decisionOf d) ≡ finishOf d (s .control .clock) (s .fixed .limit) (endTick s)
+unfolding finish
+finish-is Spend s = refl
+finish-is (Stall why) s = refl
+finish-is (Close cause) s = refl
+finish-is (Carry k act) s = refl
+
+-- It is within the limit.
+admits-finish : (d : Verdict) (pc clock limit e : ℕ) → Admits d pc clock limit e → clock ≤ limit → finishOf d clock limit e ≤ limit
+admits-finish Spend pc clock limit e h c = omega arith
+admits-finish (Stall why) pc clock limit e h c = c
+admits-finish (Close cause) pc clock limit e h c = omega arith
+admits-finish (Carry k act) pc clock limit e h c = h .0
+
+-- What it says of a close and of a change that is carried out.
+module _ {d : Verdict} (clock limit e : ℕ) where
+  pub finish-close : {cause : ℕ} → d ≡ Close cause → finishOf d clock limit e ≤ limit → e + 1 ≤ limit
+  finish-close q h = rw q at h
+
+  pub finish-carry : {k : ℕ} {act : Act} → d ≡ Carry k act → finishOf d clock limit e ≤ limit → clock + k ≤ limit
+  finish-carry q h = rw q at h
+
 -- ---- the loop
 
 -- What holds at the loop's test.
-pub record Went (fixed : Fixed) (start : Control) (count : ℕ) (once : Bool) (values₀ labels₀ words₀ marks : List ℕ) (control : Control) (left : ℕ) (values labels words : List ℕ) : Type 0 where
+pub record Went (fixed : Fixed) (start : Control) (count : ℕ) (once : Bool) (tick : ℕ) (values₀ labels₀ words₀ marks : List ℕ) (control : Control) (left : ℕ) (values labels words : List ℕ) : Type 0 where
   pub run :
-      steps count (stateFrom fixed start values₀ labels₀ words₀ marks)
-      ≡ steps left (stateFrom fixed control values labels words marks)
+      stepsBy tick count (stateFrom fixed start values₀ labels₀ words₀ marks)
+      ≡ stepsBy tick left (stateFrom fixed control values labels words marks)
   pub strides :
-      once ≡ true
+      once ≡ true → tick ≡ fixed .limit
       → stride count (stateFrom fixed start values₀ labels₀ words₀ marks) ≡ stride left (stateFrom fixed control values labels words marks)
   pub ranges : InRanges fixed control words marks
+  pub near : tick ≤ fixed .limit
   pub long : length words ≡ length words₀
 
-pub went-none : {fixed : Fixed} {start : Control} {count : ℕ} {once : Bool} {values labels words marks : List ℕ} → InRanges fixed start words marks
-    → Went fixed start count once values labels words marks start count values labels words
-went-none h = record { run = refl; strides = λ a. refl; ranges = h; long = refl }
+pub went-none : {fixed : Fixed} {start : Control} {count : ℕ} {once : Bool} {tick : ℕ} {values labels words marks : List ℕ} → InRanges fixed start words marks
+    → tick ≤ fixed .limit → Went fixed start count once tick values labels words marks start count values labels words
+went-none h near = record { run = refl; strides = λ a b. refl; ranges = h; near = near; long = refl }
 
-module _ {fixed : Fixed} {start : Control} {count : ℕ} {once : Bool} {values₀ labels₀ words₀ marks : List ℕ} {control : Control} {left : ℕ} {values labels words : List ℕ} (h : Went fixed start count once values₀ labels₀ words₀ marks control left values labels words) where
+module _ {fixed : Fixed} {start : Control} {count : ℕ} {once : Bool} {tick : ℕ} {values₀ labels₀ words₀ marks : List ℕ} {control : Control} {left : ℕ} {values labels words : List ℕ} (h : Went fixed start count once tick values₀ labels₀ words₀ marks control left values labels words) where
   abbrev now : State
   now = stateFrom fixed control values labels words marks
 
   pub went-ended : {r : Halted} → 0 < left → 0 < control .end → r ≡ record { control = control; left = left - 1 }
-      → Driven fixed start count once values₀ labels₀ words₀ marks r values labels words
+      → Driven fixed start count once tick values₀ labels₀ words₀ marks r values labels words
   went-ended more e q =
       rw q (record {
-        all = λ a. sym (h .run ∙ ended-steps left now e);
+        all = λ a. sym (h .run ∙ ended-stays tick left now (ended now e));
         one =
-            λ a.
+            λ a b.
             sym
-            (h .strides a ∙ stride-goes left now (skim-ended left now e) (ends-first left now more)
-            ∙ ap (λ (s : State). record { state = s; left = left - 1 }) (ended-step now e));
+            (h .strides a b ∙ stride-goes left now (skim-ended left now e) (ends-first left now more)
+            ∙ ap (λ (s : State). record { state = s; left = left - 1 }) (step-ended now (ended now e)));
       })
 
   pub went-out : {r : Halted} → left ≤ 0 → r ≡ record { control = control; left = left }
-      → Driven fixed start count once values₀ labels₀ words₀ marks r values labels words
+      → Driven fixed start count once tick values₀ labels₀ words₀ marks r values labels words
   went-out e q =
       let none : left ≡ 0 = omega arith in
       rw q (record {
-        all = λ a. sym (h .run ∙ ap (λ (n : ℕ). steps n now) none ∙ steps-none _);
-        one = λ a. sym (h .strides a ∙ stride-ends left now (skim-none left now none) (ends-none left now none));
+        all = λ a. sym (h .run ∙ ap (λ (n : ℕ). stepsBy tick n now) none ∙ none-by tick _);
+        one = λ a b. sym (h .strides a b ∙ stride-ends left now (skim-none left now none) (ends-none left now none));
       })
 
-  module _ (runs : control .end ≤ 0) {call : Call} (c : call ≡ newestOf (control .first) (control .second)) {context : Context} (u : context ≡ contextOf (fixed .size) (fixed .limit) (control .pair) call) where
-    timed : Timed (stateFrom fixed control values labels words marks) (context .up) (context .deadline)
+  module _ (runs : control .end ≤ 0) {call : Call} (c : call ≡ newestOf (control .first) (control .second)) {context : Context} (u : context ≡ contextOf (fixed .size) tick (control .pair) call) where
+    timed : Timed (under tick (stateFrom fixed control values labels words marks)) (context .up) (context .deadline)
     unfolding inUpcall newest endTick
     timed = rw u (record { running = omega arith; upcall = rw c; due = rw c })
 
@@ -136,94 +173,152 @@ module _ {fixed : Fixed} {start : Control} {count : ℕ} {once : Bool} {values�
       abbrev there : State
       there = view (stateFrom fixed control values labels words marks) (fixed .size) (control .pair .pc) (control .pair .timing) (pause .pc) (pause .clock) values′ labels words′ marks
 
-      timed-there : Timed there (context .up) (context .deadline)
+      timed-there : Timed (under tick there) (context .up) (context .deadline)
       unfolding inUpcall newest endTick
       timed-there = record { running = timed .running; upcall = timed .upcall; due = timed .due }
 
-      -- What was skimmed, and what is left to do from there.
-      pub skimmed : skim left (stateFrom fixed control values labels words marks) ≡ record { state = there; left = pause .left }
-      skimmed =
-          p .run (stateFrom fixed control values labels words marks) timed
-          ∙ skim-paused (pause .stop) (pause .left) there timed-there (p .paused (stateFrom fixed control values labels words marks) timed)
+      paused-there : Paused (pause .stop) (pause .left) (under tick there)
+      paused-there = p .paused (under tick (stateFrom fixed control values labels words marks)) timed
 
-      steps-there : steps left (stateFrom fixed control values labels words marks) ≡ steps (pause .left) there
+      -- What was skimmed, and what is left to do from there.
+      skimmed : skim left (under tick (stateFrom fixed control values labels words marks)) ≡ record { state = under tick there; left = pause .left }
+      skimmed =
+          p .run (under tick (stateFrom fixed control values labels words marks)) timed
+          ∙ skim-paused (pause .stop) (pause .left) (under tick there) timed-there paused-there
+
+      steps-there : stepsBy tick left (stateFrom fixed control values labels words marks) ≡ stepsBy tick (pause .left) there
       steps-there =
-          skim-steps left (stateFrom fixed control values labels words marks)
-          ∙ ap (λ (k : Skim). steps (k .left) (k .state)) skimmed
+          by-skim tick left (stateFrom fixed control values labels words marks) (h .near)
+          ∙ ap (λ (k : Skim). stepsBy tick (k .left) (under (fixed .limit) (k .state))) skimmed
+
+      -- Where no step is barred, the limit is the state's own.
+      skimmed-all : tick ≡ fixed .limit → skim left (stateFrom fixed control values labels words marks) ≡ record { state = there; left = pause .left }
+      skimmed-all b =
+          subst (λ (k : ℕ). skim left (under k (stateFrom fixed control values labels words marks)) ≡ record { state = under k there; left = pause .left }) b
+          skimmed
+
+      paused-all : tick ≡ fixed .limit → Paused (pause .stop) (pause .left) there
+      paused-all b = subst (λ (k : ℕ). Paused (pause .stop) (pause .left) (under k there)) b paused-there
 
       -- Whether the steps end there.
-      ends-there : {test : Bool} → test ≡ endsAt once left (pause .left) (pause .stop) → once ≡ true
+      ends-there : {test : Bool} → test ≡ endsAt once left (pause .left) (pause .stop) → once ≡ true → tick ≡ fixed .limit
           → test ≡ ends left (record { state = there; left = pause .left })
-      ends-there e a =
-          e ∙ ap (λ (b : Bool). endsAt b left (pause .left) (pause .stop)) a
-          ∙ ends-paused (pause .stop) left (pause .left) there (p .paused (stateFrom fixed control values labels words marks) timed)
+      ends-there e a b =
+          e ∙ ap (λ (x : Bool). endsAt x left (pause .left) (pause .stop)) a
+          ∙ ends-paused (pause .stop) left (pause .left) there (paused-all b)
 
       -- They do.
       pub went-paused : {there′ : Control} {r : Halted} {test : Bool} → there′ ≡ controlOf (pause .pc) (control .pair) (pause .clock) (control .first) (control .second) (control .end) (control .why)
           → r ≡ record { control = there′; left = pause .left }
           → test ≡ endsAt once left (pause .left) (pause .stop) → test ≡ true
-          → Driven fixed start count once values₀ labels₀ words₀ marks r values′ labels words′
+          → Driven fixed start count once tick values₀ labels₀ words₀ marks r values′ labels words′
       went-paused f q e passed =
           rw (q, f) (record {
             all =
                 λ a.
                 sym
-                (h .run ∙ steps-there ∙ ap (λ (n : ℕ). steps n there) (none-left (pause .left) once a (sym e ∙ passed))
-                ∙ steps-none _);
-            one = λ a. sym (h .strides a ∙ stride-ends left now skimmed (sym (ends-there e a) ∙ passed));
+                (h .run ∙ steps-there ∙ ap (λ (n : ℕ). stepsBy tick n there) (none-left (pause .left) once a (sym e ∙ passed))
+                ∙ none-by tick _);
+            one = λ a b. sym (h .strides a b ∙ stride-ends left now (skimmed-all b) (sym (ends-there e a b) ∙ passed));
           })
         where
           none-left : (n : ℕ) (b : Bool) → b ≡ false → endsAt b left n (pause .stop) ≡ true → n ≡ 0
           none-left n b a x = eqb-true n 0 (sym (or-false (eqb n 0)) ∙ (rw a at x))
 
-      newest-there : newest (view (stateFrom fixed control values labels words marks) (fixed .size) (control .pair .pc) (control .pair .timing) (pause .pc) (pause .clock) values′ labels words′ marks .control) ≡ call
+      newest-there : newest (there .control) ≡ call
       unfolding newest
       newest-there = sym c
 
+      tick-there : endTick there ≡ endTickOf call
+      unfolding endTick
+      tick-there = ap endTickOf newest-there
+
       module _ (more : 0 < pause .left) where
-        pub stopped-there : Stopped (pause .stop) (view (stateFrom fixed control values labels words marks) (fixed .size) (control .pair .pc) (control .pair .timing) (pause .pc) (pause .clock) values′ labels words′ marks)
-        stopped-there = paused-stop (pause .stop) (pause .left) _ more (p .paused (stateFrom fixed control values labels words marks) timed)
+        stopped-there : Stopped (pause .stop) (under tick there)
+        stopped-there = paused-stop (pause .stop) (pause .left) _ more paused-there
+
+        settled : Settles tick (pause .stop) there
+        settled = settles tick (pause .stop) there (h .near) (timed .running) stopped-there
 
         pub ready-there : Ready (pause .stop) (pause .pc)
         ready-there = ready-of (pause .stop) _ (h .ranges .size) stopped-there
 
-        -- One step of what the hot loop stopped at.
-        module _ {verdict : Verdict} {values″ labels″ : List ℕ} {control′ : Control} (a : Decided (pause .stop) (pause .pc) (fixed .errorpc) (fixed .limit) (control .pair .pc) (control .pair .timing) (pause .clock) call (fixed .count) (fixed .gates) values′ labels verdict) (b : Wrote verdict (control .pair .timing) values′ labels values″ labels″) (k : Controlled (control .pair) (control .first) (control .second) (control .end) (control .why) (pause .pc) (pause .clock) (fixed .limit) verdict control′) where
-          stepped : step there ≡ stateFrom fixed control′ values″ labels″ words′ marks
-          stepped = step-from _ _ control′ (a .is there (timed .running) newest-there stopped-there) (b .is there) (k .is there)
+        -- What the hot loop stopped at.
+        module _ {verdict : Verdict} (a : Decided (pause .stop) (pause .pc) (fixed .errorpc) (fixed .limit) (control .pair .pc) (control .pair .timing) (pause .clock) call (fixed .count) (fixed .gates) values′ labels verdict) {barred : Bool} (m : barred ≡ ltb tick (finishOf verdict (pause .clock) (fixed .limit) (endTickOf call))) where
+          -- When its step would finish.
+          finishes : finish there (inLimit there (planFor (pause .stop) there)) ≡ finishOf verdict (pause .clock) (fixed .limit) (endTickOf call)
+          finishes =
+              ap (finish there) (sym (a .is there newest-there)) ∙ finish-is verdict there
+              ∙ ap (finishOf verdict (pause .clock) (fixed .limit)) tick-there
 
-          -- It was all that was asked for.
-          pub went-once : {r : Halted} {test : Bool} → test ≡ endsAt once left (pause .left) (pause .stop) → test ≡ false → once ≡ true
-              → r ≡ record { control = control′; left = pause .left - 1 }
-              → Driven fixed start count once values₀ labels₀ words₀ marks r values″ labels″ words′
-          went-once e failed all q =
-              rw q (record {
-                all = λ x. clash all x;
+          -- It finishes past the tick.
+          past-there : barred ≡ true → tick < finish there (decide there)
+          past-there e =
+              let l : tick < finish there (inLimit there (planFor (pause .stop) there)) = rw finishes (ltb-true _ _ (sym m ∙ e)) in
+              ⊎-elim (λ (same : inLimit there (planFor (pause .stop) there) ≡ decide there). rw same at l) (λ late. late .0) settled
+
+          -- It finishes by it.
+          by-there : barred ≡ false
+              → (inLimit there (planFor (pause .stop) there) ≡ decide there) × (finish there (decide there) ≤ tick)
+          by-there e =
+              let l : finish there (inLimit there (planFor (pause .stop) there)) ≤ tick = rw finishes (ltb-false _ _ (sym m ∙ e)) in
+              ⊎-elim (λ (same : inLimit there (planFor (pause .stop) there) ≡ decide there). (same, (rw same at l)))
+              (λ late. absurd (omega (arith, late .1, l)))
+              settled
+
+          -- So nothing more is done.
+          pub went-barred : {there′ : Control} {r : Halted} → there′ ≡ controlOf (pause .pc) (control .pair) (pause .clock) (control .first) (control .second) (control .end) (control .why)
+              → r ≡ record { control = there′; left = pause .left } → barred ≡ true → pause .clock ≤ fixed .limit
+              → Driven fixed start count once tick values₀ labels₀ words₀ marks r values′ labels words′
+          went-barred f q e within =
+              rw (q, f) (record {
+                all = λ x. sym (h .run ∙ steps-there ∙ late-by tick (pause .left) there (past-there e));
                 one =
-                    λ x.
-                    sym
-                    (h .strides x ∙ stride-goes left now skimmed (sym (ends-there e x) ∙ failed)
-                    ∙ ap (λ (s : State). record { state = s; left = pause .left - 1 }) stepped);
+                    λ x b.
+                    absurd
+                    (omega (arith, past-there e, finish-limited there within, b));
               })
 
-          -- It was not.
-          pub went-more : once ≡ false → pause .clock ≤ fixed .limit → length words′ ≡ length words
-              → Went fixed start count once values₀ labels₀ words₀ marks control′ (pause .left - 1) values″ labels″ words′
-          went-more busy within same =
-              record {
-                run = h .run ∙ steps-there ∙ steps-one (pause .left) _ more ∙ ap (steps (pause .left - 1)) stepped;
-                strides = λ x. clash x busy;
-                ranges =
-                    record {
-                      size = h .ranges .size;
-                      limit = h .ranges .limit;
-                      gates = h .ranges .gates;
-                      clock = k .bounded within;
-                      words = rw same (h .ranges .words);
-                      marks = h .ranges .marks;
-                    };
-                long = same ∙ h .long;
-              }
+          -- One step of it.
+          module _ {values″ labels″ : List ℕ} {control′ : Control} (b : Wrote verdict (control .pair .timing) values′ labels values″ labels″) (k : Controlled (control .pair) (control .first) (control .second) (control .end) (control .why) (pause .pc) (pause .clock) (fixed .limit) verdict control′) (on : barred ≡ false) where
+            stepped : step there ≡ stateFrom fixed control′ values″ labels″ words′ marks
+            stepped = step-from _ _ control′ (a .is there newest-there ∙ by-there on .0) (b .is there) (k .is there)
+
+            -- It was all that was asked for.
+            pub went-once : {r : Halted} {test : Bool} → test ≡ endsAt once left (pause .left) (pause .stop) → test ≡ false → once ≡ true
+                → r ≡ record { control = control′; left = pause .left - 1 }
+                → Driven fixed start count once tick values₀ labels₀ words₀ marks r values″ labels″ words′
+            went-once e failed all q =
+                rw q (record {
+                  all = λ x. clash all x;
+                  one =
+                      λ x y.
+                      sym
+                      (h .strides x y ∙ stride-goes left now (skimmed-all y) (sym (ends-there e x y) ∙ failed)
+                      ∙ ap (λ (s : State). record { state = s; left = pause .left - 1 }) stepped);
+                })
+
+            -- It was not.
+            pub went-more : once ≡ false → pause .clock ≤ fixed .limit → length words′ ≡ length words
+                → Went fixed start count once tick values₀ labels₀ words₀ marks control′ (pause .left - 1) values″ labels″ words′
+            went-more busy within same =
+                record {
+                  run =
+                      h .run ∙ steps-there ∙ one-by tick (pause .left) there more (by-there on .1)
+                      ∙ ap (stepsBy tick (pause .left - 1)) stepped;
+                  strides = λ x y. clash x busy;
+                  near = h .near;
+                  ranges =
+                      record {
+                        size = h .ranges .size;
+                        limit = h .ranges .limit;
+                        gates = h .ranges .gates;
+                        clock = k .bounded within;
+                        words = rw same (h .ranges .words);
+                        marks = h .ranges .marks;
+                      };
+                  long = same ∙ h .long;
+                }
 
 -- Where the steps don't end there, a step is left.
 pub busy-there : (once : Bool) (n left : ℕ) (stop : Stop) {test : Bool} → test ≡ endsAt once n left stop → test ≡ false → 0 < left
@@ -240,8 +335,19 @@ module _ {stop : Stop} {pc errorpc limit p t clock : ℕ} {call : Call} {count :
   pub decided-held : (n : ℕ) × Held r n
   decided-held = (pc, admits-held r pc clock limit (endTickOf call) (a .admits))
 
+  pub decided-finish : clock ≤ limit → finishOf r clock limit (endTickOf call) ≤ limit
+  decided-finish c = admits-finish r pc clock limit (endTickOf call) (a .admits) c
+
   pub decided-admits : {newer : Call} → call ≡ newer → Admits r pc clock limit (endTickOf newer)
   decided-admits e = subst (λ (x : Call). Admits r pc clock limit (endTickOf x)) e (a .admits)
+
+-- ---- the nearer tick
+
+-- By the nearer of tick and limit the same steps are done as by the tick.
+pub nearer-same : (k n : ℕ) (s : State) → s .control .clock ≤ s .fixed .limit → stepsBy (nearer k (s .fixed .limit)) n s ≡ stepsBy k n s
+nearer-same k n s c =
+    choice (λ (x : ℕ). stepsBy x n s ≡ stepsBy k n s) (ltb k (s .fixed .limit)) _ _ (λ e. refl)
+    (λ e. unbarred (s .fixed .limit) n s c (le-refl _) ∙ sym (unbarred k n s c (ltb-false k (s .fixed .limit) e)))
 
 -- ---- what the ranges say
 
@@ -259,10 +365,18 @@ module _ {fixed : Fixed} {control : Control} {words marks : List ℕ} where
         marks = w .1;
       }
 
-  pub advanced-there : (n : ℕ) (values labels : List ℕ) → InRanges fixed control words marks
-      → advanced n (stateFrom fixed control values labels words marks) ≡ steps n (stateFrom fixed control values labels words marks)
-  advanced-there n values labels h =
+  pub advanced-there : (k n : ℕ) (values labels : List ℕ) → InRanges fixed control words marks
+      → advanced k n (stateFrom fixed control values labels words marks) ≡ stepsBy k n (stateFrom fixed control values labels words marks)
+  advanced-there k n values labels h =
       rw (le-leb _ _ (h .size), le-leb _ _ (h .limit), le-leb _ _ (h .gates), le-leb _ _ (h .clock), whole-lent _ (lent words marks) (h .words) (h .marks))
+
+  -- What was done by the nearer of tick and limit.
+  pub advanced-by : (k n : ℕ) (values labels : List ℕ) → InRanges fixed control words marks → {near : ℕ} → near ≡ nearer k (fixed .limit)
+      → {s : State} → s ≡ stepsBy near n (stateFrom fixed control values labels words marks)
+      → s ≡ advanced k n (stateFrom fixed control values labels words marks)
+  advanced-by k n values labels h q e =
+      e ∙ ap (λ (x : ℕ). stepsBy x n (stateFrom fixed control values labels words marks)) q
+      ∙ nearer-same k n (stateFrom fixed control values labels words marks) (h .clock) ∙ sym (advanced-there k n values labels h)
 
   pub strode-there : (n : ℕ) (values labels : List ℕ) → InRanges fixed control words marks
       → strode n (stateFrom fixed control values labels words marks) ≡ stride n (stateFrom fixed control values labels words marks)

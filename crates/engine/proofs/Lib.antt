@@ -5,5 +5,6 @@ pub mod Turns
 pub mod Loop
 pub mod Skimming
 pub mod Verdicts
+pub mod Nearer
 pub mod Applied
 pub mod Driving

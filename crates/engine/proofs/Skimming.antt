@@ -71,7 +71,7 @@ uncommon w (suc n) h =
 stopped-uncommon : {up : Bool} {deadline : ℕ} (stop : Stop) (s : State) → Timed s up deadline → Stopped stop s → isCommon s ≡ false
 unfolding isCommon
 stopped-uncommon Out s t e = absurd e
-stopped-uncommon Late s t e = rw (e .0, not-done s (lateOf s) (late-not-done s))
+stopped-uncommon Late s t e = rw (e .decides, not-done s (lateOf s) (late-not-done s))
 stopped-uncommon Outside s t e = rw (e, and-false)
 stopped-uncommon Unreadable s t e = rw (e, and-false)
 stopped-uncommon Failed s t e = rw (decides t, e .0, not-done s (close 3) refl)
@@ -164,7 +164,7 @@ relabels-number w (suc k) =
 -- A reason to stop: whether the next word relabels.
 stopped-relabels : (stop : Stop) (s : State) → Stopped stop s → relabelsAt stop ≡ fetchesRelabelling (fetch s)
 stopped-relabels Out s e = absurd e
-stopped-relabels Late s e = sym (common-keeps (fetch s) (e .1))
+stopped-relabels Late s e = sym (common-keeps (fetch s) (ap fetchesCommon (e .fetches) ∙ e .common))
 stopped-relabels Outside s e = rw e
 stopped-relabels Unreadable s e = rw e
 stopped-relabels Failed s e = sym (common-keeps (fetch s) (e .1))

@@ -160,7 +160,22 @@ module _ {s : State} {up : Bool} {deadline : ℕ} (h : Timed s up deadline) wher
               record {
                 common = λ x. absurd (false≢true x);
                 goes = λ x. absurd (false≢true x);
-                stops = λ x. ((late (leb-false _ _ q), rw (f, c)), refl, refl);
+                stops =
+                    λ x. (
+                      record {
+                        word = w;
+                        op = op;
+                        ticks = k;
+                        change = change;
+                        fetches = f;
+                        common = c;
+                        tries = a;
+                        long = p;
+                        decides = late (leb-false _ _ q);
+                      },
+                      refl,
+                      refl,
+                    );
                 clock = λ m x y. omega arith;
               }
 

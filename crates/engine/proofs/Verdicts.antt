@@ -17,17 +17,17 @@ use Rattle.model.specs.Numbers.{mostWords}
 use Rattle.model.specs.Record.{State, isUpcall, endTickOf, newest, inUpcall}
 use Rattle.model.specs.Word.{Op, endUpcall, halt, ops, opField, decode}
 use Rattle.model.specs.Ops.{Change, write, goto, nothing, does, row, isLabel, table}
-use Rattle.model.specs.Step.{Decision, spend, stall, close, carry, failed, fetched, known, fetch, endTick, finish, fault, attempt, plan, beyondLimit, inLimit, running, decide}
+use Rattle.model.specs.Step.{Fetched, fetched, Decision, spend, stall, close, carry, known, fetch, endTick, finish, fault, attempt, plan, beyondLimit, inLimit, running, decide}
 use Rattle.engine.specs.declared.steps.common.Stop.{Stop}
-use Rattle.engine.specs.declared.steps.common.Stop.the-variants.{Out, Late, Failed, Rest}
+use Rattle.engine.specs.declared.steps.common.Stop.the-variants.{Out, Late, Outside, Unreadable, Failed, Rest}
 use Rattle.engine.specs.declared.steps.rest.Act.{Act}
 use Rattle.engine.specs.declared.steps.rest.Act.the-variants.{Pass, Halt}
 use Rattle.engine.specs.declared.steps.rest.Verdict.{Verdict}
 use Rattle.engine.specs.declared.steps.rest.Verdict.the-variants.{Spend, Stall, Close, Carry}
 use Rattle.engine.proofs.Numbers.{NoneBehind, behind}
 use Rattle.engine.proofs.Turns.{cond-same}
-use Rattle.engine.specs.Inner.Common.{lateOf, Uncommon, Stopped}
-use Rattle.engine.specs.Inner.Rest.{changeOf, decisionOf, allowed, Acts, Held, Short, Timely, Limited, stoppedAt, Other, Ready, Rested, Planned, Decided}
+use Rattle.engine.specs.Inner.Common.{Stopped}
+use Rattle.engine.specs.Inner.Rest.{changeOf, decisionOf, allowed, Acts, Held, Short, Timely, Limited, stoppedAt, Other, Ready, Rested, planFor, Planned, Decided}
 
 -- ---- truth values
 
@@ -297,17 +297,24 @@ pub running-decides : (s : State) → s .control .end ≡ 0 → decide s ≡ inL
 unfolding decide running
 running-decides s e = rw (eq-eqb (s .control .end) 0 e)
 
+-- Where the hot loop has stopped for a reason, the state decides by the plan for it.
+pub stopped-decides : (stop : Stop) (s : State) → s .control .end ≡ 0 → Stopped stop s → inLimit s (planFor stop s) ≡ decide s
+stopped-decides Out s e h = absurd h
+stopped-decides Late s e h = sym (h .decides)
+stopped-decides Outside s e h = sym (running-decides s e ∙ ap (λ (f : Fetched). inLimit s (plan s f)) h)
+stopped-decides Unreadable s e h = sym (running-decides s e ∙ ap (λ (f : Fetched). inLimit s (plan s f)) h)
+stopped-decides Failed s e h = sym (running-decides s e ∙ ap (inLimit s) (h .0))
+stopped-decides (Rest w) s e h = sym (running-decides s e ∙ ap (λ (f : Fetched). inLimit s (plan s f)) (h .word))
+
 module _ {stop : Stop} {pc errorpc p t clock : ℕ} {call : Call} {count : ℕ} {gates : List CallGate} {values labels : List ℕ} {r : Verdict} where
-  pub planned-out : stop ≡ Out → Held r pc → Short r → Planned stop pc errorpc p t clock call count gates values labels r
-  planned-out q x y = record { is = λ s limit e c h. absurd (rw q at h); held = x; short = y }
+  pub planned-out : stop ≡ Out → r ≡ Spend → Planned stop pc errorpc p t clock call count gates values labels r
+  planned-out q f = record { is = λ s limit c. rw (q, f); held = rw f tt; short = rw f tt }
 
   pub planned-late : {up : Bool} → stop ≡ Late → up ≡ isUpcall call → r ≡ cond up (Close 2) Spend
       → Planned stop pc errorpc p t clock call count gates values labels r
   planned-late {up} q u f =
       record {
-        is =
-            λ s limit e c h.
-            late-is (stoppedAt s errorpc limit count gates pc p t clock values labels) ((rw q at h) .0) (stopped-upcall s errorpc limit count gates pc p t clock values labels c u);
+        is = λ s limit c. rw (q, stopped-upcall s errorpc limit count gates pc p t clock values labels c u, f) (verdict up);
         held = rw f (held-of up);
         short = rw f (short-of up);
       }
@@ -320,24 +327,21 @@ module _ {stop : Stop} {pc errorpc p t clock : ℕ} {call : Call} {count : ℕ} 
       short-of true = tt
       short-of false = tt
 
-      verdict : (b : Bool) → cond b (close 2) spend ≡ decisionOf (cond b (Close 2) Spend)
+      verdict : (b : Bool) → decisionOf (cond b (Close 2) Spend) ≡ cond b (close 2) spend
       verdict true = refl
       verdict false = refl
 
-      late-is : (s : State) → decide s ≡ inLimit s (lateOf s) → inUpcall (s .control) ≡ up → decide s ≡ inLimit s (decisionOf r)
-      late-is s h i = h ∙ ap (inLimit s) (rw (i, f) (verdict up))
-
-  pub planned-fault : {up : Bool} (why : ℕ) → ((s : State) → Stopped stop s → fetch s ≡ failed why) → up ≡ isUpcall call
+  pub planned-fault : {up : Bool} (why : ℕ) → ((s : State) → planFor stop s ≡ fault s why) → up ≡ isUpcall call
       → (decisionOf r ≡ cond up (close 3) (cond (eqb pc errorpc) (stall why) (carry 1 (goto errorpc)))) × Held r pc × Short r
       → Planned stop pc errorpc p t clock call count gates values labels r
   planned-fault why f u q =
       record {
         is =
-            λ s limit e c h.
-            running-decides _ e ∙ ap (inLimit _)
-            (ap (plan _) (f _ h)
-            ∙ sym (q .0 ∙ fault-is (stoppedAt s errorpc limit count gates pc p t clock values labels) why
-            (stopped-upcall s errorpc limit count gates pc p t clock values labels c u)));
+            λ s limit c.
+            q .0
+            ∙ fault-is (stoppedAt s errorpc limit count gates pc p t clock values labels) why
+            (stopped-upcall s errorpc limit count gates pc p t clock values labels c u)
+            ∙ sym (f _);
         held = q .1;
         short = q .2;
       }
@@ -345,7 +349,7 @@ module _ {stop : Stop} {pc errorpc p t clock : ℕ} {call : Call} {count : ℕ} 
   pub planned-failed : stop ≡ Failed → r ≡ Close 3 → Planned stop pc errorpc p t clock call count gates values labels r
   planned-failed q f =
       record {
-        is = λ s limit e c h. running-decides _ e ∙ ap (inLimit _) ((rw q at h) .0 ∙ sym (ap decisionOf f));
+        is = λ s limit c. rw (q, f);
         held = rw f tt;
         short = rw f tt;
       }
@@ -354,13 +358,10 @@ module _ {stop : Stop} {pc errorpc p t clock : ℕ} {call : Call} {count : ℕ} 
       → Planned stop pc errorpc p t clock call count gates values labels r
   planned-rest {w} q a =
       record {
-        is = λ s limit e c h. running-decides _ e ∙ ap (inLimit _) (word-is (stoppedAt s errorpc limit count gates pc p t clock values labels) (rw q at h) ∙ sym (a .is s limit c));
+        is = λ s limit c. rw q (a .is s limit c);
         held = a .held;
         short = a .short;
       }
-    where
-      word-is : (s : State) → Uncommon s w → plan s (fetch s) ≡ plan s (known w (decode (opField w)))
-      word-is s h = ap (plan s) (h .word)
 
   -- The plan held against the limit.
   pub decided : {limit : ℕ} {d : Verdict} → Planned stop pc errorpc p t clock call count gates values labels d
@@ -369,10 +370,10 @@ module _ {stop : Stop} {pc errorpc p t clock : ℕ} {call : Call} {count : ℕ} 
   decided {limit} a f b =
       record {
         is =
-            λ s e c h.
+            λ s c.
             b .is (stoppedAt s errorpc limit count gates pc p t clock values labels) refl refl
             (stopped-end s errorpc limit count gates pc p t clock values labels c f)
-            ∙ sym (a .is s limit e c h);
+            ∙ ap (inLimit (stoppedAt s errorpc limit count gates pc p t clock values labels)) (a .is s limit c);
         admits = rw (← f) (b .admits pc (a .held));
       }
 

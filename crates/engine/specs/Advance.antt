@@ -1,4 +1,4 @@
--- So many steps, and a stride of them, as the public calls promise them.
+-- So many steps by a tick, and a stride of steps, as the public calls promise them.
 -- Assumes nothing.
 use Prim.Native.Nat.{ℕ}
 use mathlib.Core.Bool.{Bool, _&&_, cond}
@@ -9,7 +9,7 @@ use Rattle.model.specs.declared.Control.{Control}
 use Rattle.model.specs.Numbers.{mostWords, mostTicks, mostGates}
 use Rattle.model.specs.Record.{State, lent}
 use Rattle.model.specs.WellFormed.{lentWhole}
-use Rattle.model.specs.Step.{steps}
+use Rattle.model.specs.Step.{stepsBy}
 use Rattle.engine.specs.declared.steps.drive.Halted.{Halted}
 use Rattle.engine.specs.Skim.{Skim, stride}
 
@@ -24,9 +24,9 @@ fitting s =
     leb (s .fixed .size) mostWords && leb (s .fixed .limit) mostTicks && leb (s .fixed .count) mostGates
     && leb (s .control .clock) (s .fixed .limit) && lentWhole (s .fixed .size) (s .memory)
 
--- So many steps of such a state. Any other stays as it is.
-abbrev pub advanced : ℕ → State → State
-advanced n s = cond (fitting s) (steps n s) s
+-- So many steps of such a state that finish by tick k. Any other stays as it is.
+abbrev pub advanced : ℕ → ℕ → State → State
+advanced k n s = cond (fitting s) (stepsBy k n s) s
 
 -- What `stride` gives back and leaves.
 abbrev pub strodeFrom : Fixed → Halted → List ℕ → List ℕ → List ℕ → List ℕ → Skim

@@ -10,6 +10,10 @@ use Rattle.model.specs.Record.{isEmpty}
 abbrev pub newestOf : Call → Call → Call
 newestOf first second = cond (isEmpty second) first second
 
+-- The nearer of two ticks.
+abbrev pub nearer : ℕ → ℕ → ℕ
+nearer k limit = cond (ltb k limit) k limit
+
 -- The tick by which a common op has to finish: the limit, or in an upcall its end tick if that is below the limit.
 abbrev pub deadlineOf : Bool → ℕ → ℕ → ℕ
-deadlineOf up e limit = cond up (cond (ltb e limit) e limit) limit
+deadlineOf up e limit = cond up (nearer e limit) limit

@@ -1,9 +1,10 @@
-// So many steps. The ranges that they rest on, and that memory is lent whole, are tested first; where that doesn't hold,
+// So many steps, by a tick. The ranges that they rest on, and that memory is lent whole, are tested first; where that doesn't hold,
 // nothing is done. The functions below that ask something of their caller are seen here alone.
 use crate::word::index;
 pub use drive::Halted;
 pub use drive::deadline_of;
 use drive::drive;
+use drive::nearer;
 use model::Control;
 use model::Fixed;
 use model::numbers::MOST_GATES;
@@ -32,20 +33,33 @@ fn is_fitting(fixed: Fixed, start: Control, words: &[u32], marks: &[u8]) -> bool
         & whole
 }
 
-// So many steps from the control `start`, with the registers and memory as they are lent.
+// So many steps from the control `start`, with the registers and memory as they are lent, but none that finishes past the
+// tick.
 pub fn advance(
     fixed: Fixed,
     start: Control,
     count: u32,
+    tick: u64,
     values: &mut [u32; REGISTER_COUNT],
     labels: &mut [u8; REGISTER_COUNT],
     words: &mut [u32],
     marks: &[u8],
 ) -> Control
-    ensures { λ r. ⌜ stateFrom fixed r (now (values .exit)) (now (labels .exit)) (now (words .exit)) (now (marks .entry)) ≡ advanced count (stateFrom fixed start (now (values .entry)) (now (labels .entry)) (now (words .entry)) (now (marks .entry))) ⌝ }
+    ensures { λ r. ⌜ stateFrom fixed r (now (values .exit)) (now (labels .exit)) (now (words .exit)) (now (marks .entry)) ≡ advanced tick count (stateFrom fixed start (now (values .entry)) (now (labels .entry)) (now (words .entry)) (now (marks .entry))) ⌝ }
 {
     if is_fitting(fixed, start, words, marks) {
-        let halted = drive(fixed, start, count, false, values, labels, words, marks);
+        let nearest = nearer(tick, fixed.limit);
+        let halted = drive(
+            fixed,
+            start,
+            count,
+            false,
+            nearest,
+            values,
+            labels,
+            words,
+            marks,
+        );
         return halted.control;
     }
     start
@@ -65,7 +79,17 @@ pub fn stride(
     ensures { λ r. ⌜ strodeFrom fixed r (now (values .exit)) (now (labels .exit)) (now (words .exit)) (now (marks .entry)) ≡ strode count (stateFrom fixed start (now (values .entry)) (now (labels .entry)) (now (words .entry)) (now (marks .entry))) ⌝ }
 {
     if is_fitting(fixed, start, words, marks) {
-        return drive(fixed, start, count, true, values, labels, words, marks);
+        return drive(
+            fixed,
+            start,
+            count,
+            true,
+            fixed.limit,
+            values,
+            labels,
+            words,
+            marks,
+        );
     }
     Halted {
         control: start,

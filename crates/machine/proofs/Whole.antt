@@ -1,28 +1,30 @@
 -- Laws about the whole record: when it is well-formed, and what a call answers.
 -- Assumes nothing.
-use Prim.Native.Nat.{ℕ, _-_}
-use mathlib.Core.Path.{_≡_, refl, ap, _∙_}
+use Prim.Native.Nat.{ℕ, _+_, _-_, _≤_}
+use mathlib.Core.Path.{_≡_, refl, ap, ap₂, _∙_}
 use mathlib.Core.Bool.{true, false, _&&_}
 use mathlib.Core.List.{List}
+use native.Mathlib.Nat.{le-refl}
 use Rattle.causes.specs.declared.Cause.the-variants.{ShortMemory, IllFormed}
 use Rattle.causes.specs.declared.Outcome.the-variants.{Done, Refused}
 use Rattle.model.specs.declared.Pair.{Pair}
 use Rattle.model.specs.declared.Control.{Control}
 use Rattle.model.specs.declared.Request.{Request}
-use Rattle.model.specs.declared.Request.the-variants.{Step, Run}
+use Rattle.model.specs.declared.Request.the-variants.{Step, Run, RunTo}
 use Rattle.model.specs.declared.Call.{Call}
 use Rattle.model.specs.declared.Call.the-variants.{Empty, Gate, Upcall}
 use Rattle.model.specs.Record.{State, machineOf, isEmpty, lent}
 use Rattle.model.specs.Record as records
 use Rattle.model.specs.WellFormed.{isValid, upcallWellFormed, callsWellFormed, wellFormed, lentWhole}
-use Rattle.model.specs.Step.{step, steps, run}
+use Rattle.model.specs.Step.{steps, run, stepsBy, runTo}
 use Rattle.model.specs.Answer.{answer, work, answerOf}
 use Rattle.model.proofs.Ready.{fit, whole-lengths}
+use Rattle.model.proofs.RunTo.{unbarred}
 use Rattle.machine.specs.declared.Machine.{Machine}
 use Rattle.engine.specs.Advance.{stateFrom}
 use Rattle.engine.specs.Inner.Drive.{InRanges}
 use Rattle.machine.specs.Answered.{recordOf, answered}
-use Rattle.machine.specs.Inner.Carried.{countOf, Carried}
+use Rattle.machine.specs.Inner.Carried.{countOf, tickOf, Carried}
 use Rattle.machine.specs.Inner.WellFormed.{overGate}
 
 -- ---- the two places for open calls, by the first
@@ -62,23 +64,26 @@ ranges-of r e m h =
 
 -- ---- what a call answers
 
--- One step, or as many as a run can take.
-counted : (q : Request) (s : State) → steps (countOf q (s .fixed .limit) (s .control .clock)) s ≡ work q s
-unfolding steps run
-counted Step s = refl
-counted Run s = refl
+-- One step, or as many as a run can take: the tick of a step and of a run is the limit, which bars none.
+counted : (q : Request) (s : State) → s .control .clock ≤ s .fixed .limit
+    → stepsBy (tickOf q (s .fixed .limit)) (countOf q (s .fixed .limit) (s .control .clock)) s ≡ work q s
+unfolding steps run runTo
+counted Step s c = unbarred (s .fixed .limit) 1 s c (le-refl _)
+counted Run s c = unbarred (s .fixed .limit) (s .fixed .limit - s .control .clock + 1) s c (le-refl _)
+counted (RunTo k) s c = refl
 
-pub carried-of : {q : Request} {m : Machine} {count : ℕ} {words labels : List ℕ} {control : Control} {values marks words′ : List ℕ}
-    → count ≡ countOf q (m .fixed .limit) (m .control .clock)
-    → stateFrom (m .fixed) control values marks words′ labels ≡ steps count (stateFrom (m .fixed) (m .control) (m .values) (m .labels) words labels)
+pub carried-of : {q : Request} {m : Machine} {count tick : ℕ} {words labels : List ℕ} {control : Control} {values marks words′ : List ℕ}
+    → m .control .clock ≤ m .fixed .limit → count ≡ countOf q (m .fixed .limit) (m .control .clock) → tick ≡ tickOf q (m .fixed .limit)
+    → stateFrom (m .fixed) control values marks words′ labels ≡ stepsBy tick count (stateFrom (m .fixed) (m .control) (m .values) (m .labels) words labels)
     → Carried q m words labels (record { fixed = m .fixed; control = control; values = values; labels = marks }) words′ labels
-carried-of {q} {m} {count} {words} {labels} {control} {values} {marks} {words′} e h =
+carried-of {q} {m} {count} {tick} {words} {labels} {control} {values} {marks} {words′} c e f h =
     record { machine = ap machineOf there; memory = ap (λ (s : State). s .memory) there }
   where
     there : stateFrom (m .fixed) control values marks words′ labels ≡ work q (stateFrom (m .fixed) (m .control) (m .values) (m .labels) words labels)
     there =
-        h ∙ ap (λ (n : ℕ). steps n (stateFrom (m .fixed) (m .control) (m .values) (m .labels) words labels)) e
-        ∙ counted q (stateFrom (m .fixed) (m .control) (m .values) (m .labels) words labels)
+        h
+        ∙ ap₂ (λ (k n : ℕ). stepsBy k n (stateFrom (m .fixed) (m .control) (m .values) (m .labels) words labels)) f e
+        ∙ counted q (stateFrom (m .fixed) (m .control) (m .values) (m .labels) words labels) c
 
 module _ (q : Request) (m : Machine) (words labels : List ℕ) where
   -- 7 where the record is not well-formed.

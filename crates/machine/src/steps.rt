@@ -1,4 +1,4 @@
-// The public calls, one step and the run. A record that is not well-formed, or memory that is lent too short, is refused;
+// The public calls, one step, the run and the run to a tick. A record that is not well-formed, or memory that is lent too short, is refused;
 // then the record comes back and memory is left.
 use crate::Answer;
 use crate::Machine;
@@ -13,9 +13,9 @@ ghost use mathlib.Core.Bool.{true};
 ghost use Rattle.model.specs.Numbers.{mostTicks};
 ghost use Rattle.model.specs.Record.{lent};
 ghost use Rattle.model.specs.WellFormed.{wellFormed, lentWhole};
-ghost use Rattle.model.specs.Answer.{answerOf, stepAnswer, runAnswer};
+ghost use Rattle.model.specs.Answer.{answerOf, stepAnswer, runAnswer, runToAnswer};
 ghost use Rattle.machine.specs.Answered.{recordOf, answered};
-ghost use Rattle.machine.specs.Inner.Carried.{countOf, Carried};
+ghost use Rattle.machine.specs.Inner.Carried.{countOf, tickOf, Carried};
 
 // How many steps: one, or as many as a run can take.
 fn step_count(request: Request, limit: u32, clock: u32) -> u32
@@ -25,6 +25,18 @@ fn step_count(request: Request, limit: u32, clock: u32) -> u32
     match request {
         Request::Step => 1,
         Request::Run => limit - clock + 1,
+        Request::RunTo(_) => limit - clock + 1,
+    }
+}
+
+// The tick by which they have to finish: no step finishes past the limit.
+fn last_tick(request: Request, limit: u32) -> u64
+    ensures { λ r. ⌜ r ≡ tickOf request limit ⌝ }
+{
+    match request {
+        Request::Step => limit as u64,
+        Request::Run => limit as u64,
+        Request::RunTo(tick) => tick,
     }
 }
 
@@ -39,7 +51,17 @@ impl Machine {
         let mut values = self.values;
         let mut marks = self.labels;
         let count = step_count(request, fixed.limit, start.clock);
-        let control = advance(fixed, start, count, &mut values, &mut marks, words, labels);
+        let tick = last_tick(request, fixed.limit);
+        let control = advance(
+            fixed,
+            start,
+            count,
+            tick,
+            &mut values,
+            &mut marks,
+            words,
+            labels,
+        );
         Machine {
             fixed,
             control,
@@ -57,7 +79,7 @@ impl Machine {
         Answer { outcome, machine }
     }
 
-    // The answer of one step or of a run.
+    // The answer of one step, of a run or of a run to a tick.
     pub fn answer(self, request: Request, words: &mut [u32], labels: &mut [u8]) -> Answer
         ensures { λ r. ⌜ answered r (now (words .exit)) (now (labels .exit)) ≡ answerOf request (recordOf self) (lent (now (words .entry)) (now (labels .entry))) ⌝ }
     {
@@ -85,5 +107,12 @@ impl Machine {
         ensures { λ r. ⌜ answered r (now (words .exit)) (now (labels .exit)) ≡ runAnswer (recordOf self) (lent (now (words .entry)) (now (labels .entry))) ⌝ }
     {
         self.answer(Request::Run, words, labels)
+    }
+
+    // The steps that finish at or before the tick.
+    pub fn run_to(self, tick: u64, words: &mut [u32], labels: &mut [u8]) -> Answer
+        ensures { λ r. ⌜ answered r (now (words .exit)) (now (labels .exit)) ≡ runToAnswer tick (recordOf self) (lent (now (words .entry)) (now (labels .entry))) ⌝ }
+    {
+        self.answer(Request::RunTo(tick), words, labels)
     }
 }

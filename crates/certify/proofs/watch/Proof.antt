@@ -93,15 +93,19 @@ loop-again c =
     (tried .releases .ensures))
     (c .before .first-break .ensures) (c .steps-left .ensures) (strode c .stride .kept .1 .1 .1 .1 .1 .0)
 
+cast-end : tie.Need-cast-end Inv-loop μ-loop
+cast-end c = search needs
+
 advance-requires : tie.Need-advance-requires Inv-loop μ-loop
 advance-requires c κs = search needs
 
 same-length : tie.Need-same-length Inv-loop μ-loop
-same-length c = c .before .before .advance .kept .1 .1 .1 .1 .1 .0 ∙ c .before .before .before .before .before .before .before .before .loop .inv .long
+same-length c = c .before .before .advance .kept .1 .1 .1 .1 .1 .1 .0 ∙ c .before .before .before .before .before .before .before .before .before .loop .inv .long
 
 returns : tie.Need-returns Inv-loop μ-loop
 returns c =
-    watching-end (c .before .before .before .before .before .before .before .before .loop .inv) (c .before .before .before .before .before .before .if1 .left) (c .before .before .advance .ensures)
+    watching-end (c .before .before .before .before .before .before .before .before .before .loop .inv)
+    (c .before .before .before .before .before .before .before .if1 .left) (c .before .before .advance .ensures)
 
 pub watch-spec : {M : Type 1} → statement M
 watch-spec =
@@ -122,6 +126,7 @@ watch-spec =
     steps-left-requires
     loop-less
     loop-again
+    cast-end
     advance-requires
     same-length
     returns)

@@ -9,16 +9,16 @@ use lib.Dec.{leb, ltb}
 use lib.ListN.{getD, set}
 use Rattle.labels.specs.Label.{flows, join}
 use Rattle.model.specs.Record.{State, inUpcall}
-use Rattle.model.specs.Word.{Arithmetic as Computation, add, subtract, and, or, xor, less, multiply, opField, aField, bField, cField, decode, compute}
-use Rattle.model.specs.Ops.{writable, arithmeticTicks}
-use Rattle.model.specs.Step.{Decision, close, spend, failed, fetch, known, endTick, plan, inLimit, decide, step, moved}
+use Rattle.model.specs.Word.{Arithmetic as Computation, Op, add, subtract, and, or, xor, less, multiply, opField, aField, bField, cField, decode, compute}
+use Rattle.model.specs.Ops.{writable, arithmeticTicks, Change, table}
+use Rattle.model.specs.Step.{Decision, close, spend, carry, failed, fetched, fetch, known, endTick, attempt, plan, inLimit, decide, step, moved}
 use Rattle.engine.specs.declared.steps.common.Stop.{Stop}
 use Rattle.engine.specs.declared.steps.common.Stop.the-variants.{Out, Late, Outside, Unreadable, Failed, Rest}
 use Rattle.engine.specs.declared.steps.common.Turn.{Turn}
 use Rattle.engine.specs.declared.steps.common.Context.{Context}
 use Rattle.engine.specs.declared.steps.common.Arithmetic.{Arithmetic}
 use Rattle.engine.specs.declared.steps.common.Arithmetic.the-variants.{Add, Subtract, And, Or, Xor, Less, Multiply}
-use Rattle.engine.specs.Skim.{fetchesCommon, isCommon}
+use Rattle.engine.specs.Skim.{isCommonOp, fetchesCommon, isCommon}
 use Rattle.engine.specs.Calls.{deadlineOf}
 
 -- ---- what the leaves answer
@@ -125,10 +125,22 @@ pub record Uncommon (s : State) (w : ℕ) : Type 0 where
   pub within : s .control .pc < s .fixed .size
   pub op : (opField w ≡ 0) ⊎ (14 < opField w)
 
+-- A common op is tried that would finish past the deadline.
+pub record Overdue (s : State) : Type 0 where
+  pub word : ℕ
+  pub op : Op
+  pub ticks : ℕ
+  pub change : Change
+  pub fetches : fetch s ≡ fetched word op
+  pub common : isCommonOp op ≡ true
+  pub tries : attempt s (table s word op) ≡ carry ticks change
+  pub long : 0 < ticks
+  pub decides : decide s ≡ inLimit s (lateOf s)
+
 -- What each reason to stop says of the state.
 abbrev pub Stopped : Stop → State → Type 0
 Stopped Out s = ⊥
-Stopped Late s = (decide s ≡ inLimit s (lateOf s)) × (fetchesCommon (fetch s) ≡ true)
+Stopped Late s = Overdue s
 Stopped Outside s = fetch s ≡ failed 1
 Stopped Unreadable s = fetch s ≡ failed 2
 Stopped Failed s = (plan s (fetch s) ≡ close 3) × (fetchesCommon (fetch s) ≡ true)

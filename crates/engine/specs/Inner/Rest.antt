@@ -10,18 +10,18 @@ use lib.ListN.{getD}
 use Rattle.labels.specs.Label.{flows, validPair}
 use Rattle.model.specs.declared.CallGate.{CallGate}
 use Rattle.model.specs.declared.Call.{Call}
-use Rattle.model.specs.Numbers.{mostWords, registerCount}
+use Rattle.model.specs.Numbers.{mostWords, registerCount, outsideMemory, unreadable, byFailure}
 use Rattle.model.specs.Record.{State, register, isEmpty, newest, endTickOf}
 use Rattle.model.specs.Word.{opField, decode}
 use Rattle.model.specs.Ops.{nothing, label, Change, write, goto, enter, openUpcall, openGate, closeGate, stop, isLabel, noGate}
-use Rattle.model.specs.Step.{Decision, spend, stall, close, carry, known, endTick, plan, inLimit, decide}
+use Rattle.model.specs.Step.{Decision, spend, stall, close, carry, known, endTick, fault, plan, inLimit}
 use Rattle.engine.specs.declared.steps.common.Stop.{Stop}
 use Rattle.engine.specs.declared.steps.common.Stop.the-variants.{Out, Late, Outside, Unreadable, Failed, Rest}
 use Rattle.engine.specs.declared.steps.rest.Act.{Act}
 use Rattle.engine.specs.declared.steps.rest.Act.the-variants.{Pass, Goto, SetLabel, Enter, OpenUpcall, OpenGate, CloseGate, Halt}
 use Rattle.engine.specs.declared.steps.rest.Verdict.{Verdict}
 use Rattle.engine.specs.declared.steps.rest.Verdict.the-variants.{Spend, Stall, Close, Carry}
-use Rattle.engine.specs.Inner.Common.{Stopped}
+use Rattle.engine.specs.Inner.Common.{lateOf}
 
 -- The model's change that an act is.
 abbrev pub changeOf : Act → Change
@@ -128,13 +128,20 @@ pub record Rested (w pc errorpc p t clock : ℕ) (call : Call) (count : ℕ) (ga
   pub held : Held r pc
   pub short : Short r
 
--- The verdict for a reason to stop is what the model plans, but for the limit.
+-- What is planned for a reason to stop, but for the limit.
+abbrev pub planFor : Stop → State → Decision
+planFor Out s = spend
+planFor Late s = lateOf s
+planFor Outside s = fault s outsideMemory
+planFor Unreadable s = fault s unreadable
+planFor Failed s = close byFailure
+planFor (Rest w) s = plan s (known w (decode (opField w)))
+
+-- The verdict for a reason to stop is that plan.
 pub record Planned (stop : Stop) (pc errorpc p t clock : ℕ) (call : Call) (count : ℕ) (gates : List CallGate) (values labels : List ℕ) (r : Verdict) : Type 0 where
   pub is :
-      (s : State) (limit : ℕ) → s .control .end ≡ 0 → newest (s .control) ≡ call
-      → Stopped stop (stoppedAt s errorpc limit count gates pc p t clock values labels)
-      → decide (stoppedAt s errorpc limit count gates pc p t clock values labels)
-      ≡ inLimit (stoppedAt s errorpc limit count gates pc p t clock values labels) (decisionOf r)
+      (s : State) (limit : ℕ) → newest (s .control) ≡ call
+      → decisionOf r ≡ planFor stop (stoppedAt s errorpc limit count gates pc p t clock values labels)
   pub held : Held r pc
   pub short : Short r
 
@@ -143,10 +150,11 @@ pub record Limited (d : Verdict) (clock limit e : ℕ) (r : Verdict) : Type 0 wh
   pub is : (s : State) → s .control .clock ≡ clock → s .fixed .limit ≡ limit → endTick s ≡ e → decisionOf r ≡ inLimit s (decisionOf d)
   pub admits : (pc : ℕ) → Held d pc → Admits r pc clock limit e
 
--- The verdict is the model's decision.
+-- The verdict is that plan held against the limit, which is the model's decision where the hot loop stopped so.
 pub record Decided (stop : Stop) (pc errorpc limit p t clock : ℕ) (call : Call) (count : ℕ) (gates : List CallGate) (values labels : List ℕ) (r : Verdict) : Type 0 where
   pub is :
-      (s : State) → s .control .end ≡ 0 → newest (s .control) ≡ call
-      → Stopped stop (stoppedAt s errorpc limit count gates pc p t clock values labels)
-      → decisionOf r ≡ decide (stoppedAt s errorpc limit count gates pc p t clock values labels)
+      (s : State) → newest (s .control) ≡ call
+      → decisionOf r
+      ≡ inLimit (stoppedAt s errorpc limit count gates pc p t clock values labels)
+      (planFor stop (stoppedAt s errorpc limit count gates pc p t clock values labels))
   pub admits : Admits r pc clock limit (endTickOf call)

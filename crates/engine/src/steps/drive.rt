@@ -9,6 +9,7 @@ use crate::steps::common::Context;
 use crate::steps::common::Pause;
 use crate::steps::common::Stop;
 use crate::steps::common::sprint;
+use crate::steps::rest::Verdict;
 use crate::steps::rest::decide;
 use crate::word::RELABEL;
 use crate::word::op_of;
@@ -19,9 +20,11 @@ use model::Pair;
 use model::numbers::REGISTER_COUNT;
 ghost use Prim.Native.Nat.{_≤_};
 ghost use mathlib.Core.Path.{_≡_};
+ghost use lib.Dec.{ltb};
+ghost use Rattle.model.specs.Numbers.{mostTicks};
 ghost use Rattle.model.specs.Record.{isUpcall, endTickOf};
-ghost use Rattle.engine.specs.Calls.{deadlineOf};
-ghost use Rattle.engine.specs.Inner.Drive.{contextOf, InRanges, Driven, relabelsAt, endsAt};
+ghost use Rattle.engine.specs.Calls.{nearer, deadlineOf};
+ghost use Rattle.engine.specs.Inner.Drive.{contextOf, InRanges, Driven, relabelsAt, endsAt, finishOf};
 
 // The tick by which a common op has to finish.
 pub fn deadline_of(limit: u32, call: Call) -> u32
@@ -36,7 +39,17 @@ pub fn deadline_of(limit: u32, call: Call) -> u32
     limit
 }
 
-// What the hot loop is told.
+// The nearer of a tick and the limit.
+pub(in crate::steps) fn nearer(tick: u64, limit: u32) -> u32
+    ensures { λ r. ⌜ (r ≡ nearer tick limit) × (r ≤ limit) ⌝ }
+{
+    if tick < limit as u64 {
+        return tick as u32;
+    }
+    limit
+}
+
+// What the hot loop is told: that the limit is where its steps have to finish.
 fn context_of(size: u32, limit: u32, pair: Pair, call: Call) -> Context
     ensures { λ r. ⌜ (r ≡ contextOf size limit pair call) × (r .deadline ≤ limit) ⌝ }
 {
@@ -85,20 +98,45 @@ fn halting(control: Control, left: u32) -> Halted
     Halted { control, left }
 }
 
-// So many steps, from the control `start` and with the registers and memory as they are lent. With `once` one stride of
-// them: the common ops that come, and one step of what comes then.
+// The clock that a verdict leaves.
+fn finish_of(verdict: Verdict, clock: u32, limit: u32, call: Call) -> u32
+    requires { ⌜ (finishOf verdict clock limit (endTickOf call) ≤ limit) × (limit ≤ mostTicks) ⌝ }
+    ensures { λ r. ⌜ r ≡ finishOf verdict clock limit (endTickOf call) ⌝ }
+{
+    match verdict {
+        Verdict::Spend => limit,
+        Verdict::Stall(_) => clock,
+        Verdict::Close(_) => end_tick(call) as u32 + 1,
+        Verdict::Carry(ticks, _) => clock + ticks,
+    }
+}
+
+// Whether that is past the tick. Where the tick is the limit, as for a step and a run, nothing has to be looked at.
+fn is_barred(tick: u32, verdict: Verdict, clock: u32, limit: u32, call: Call) -> bool
+    requires { ⌜ (finishOf verdict clock limit (endTickOf call) ≤ limit) × (limit ≤ mostTicks) ⌝ }
+    ensures { λ r. ⌜ r ≡ ltb tick (finishOf verdict clock limit (endTickOf call)) ⌝ }
+{
+    if tick < limit {
+        return tick < finish_of(verdict, clock, limit, call);
+    }
+    false
+}
+
+// So many steps, from the control `start` and with the registers and memory as they are lent, but none that finishes past
+// the tick. With `once` one stride of them: the common ops that come, and one step of what comes then.
 pub(in crate::steps) fn drive(
     fixed: Fixed,
     start: Control,
     count: u32,
     once: bool,
+    tick: u32,
     values: &mut [u32; REGISTER_COUNT],
     labels: &mut [u8; REGISTER_COUNT],
     words: &mut [u32],
     marks: &[u8],
 ) -> Halted
-    requires { ⌜ InRanges fixed start (now words) (now marks) ⌝ }
-    ensures { λ r. ⌜ Driven fixed start count once (now (values .entry)) (now (labels .entry)) (now (words .entry)) (now (marks .entry)) r (now (values .exit)) (now (labels .exit)) (now (words .exit)) ⌝ }
+    requires { ⌜ InRanges fixed start (now words) (now marks) × (tick ≤ fixed .limit) ⌝ }
+    ensures { λ r. ⌜ Driven fixed start count once tick (now (values .entry)) (now (labels .entry)) (now (words .entry)) (now (marks .entry)) r (now (values .exit)) (now (labels .exit)) (now (words .exit)) ⌝ }
 {
     let limit = fixed.limit;
     let mut control = start;
@@ -113,7 +151,7 @@ pub(in crate::steps) fn drive(
         let first = control.first;
         let second = control.second;
         let call = newest(first, second);
-        let context = context_of(fixed.size, limit, pair, call);
+        let context = context_of(fixed.size, tick, pair, call);
         let at = control.pc;
         let from = control.clock;
         let pause = sprint(context, at, from, left, values, labels, words, marks);
@@ -125,8 +163,12 @@ pub(in crate::steps) fn drive(
         }
         let stop = pause.stop;
         let verdict = decide(stop, fixed, pair, pc, clock, call, values, labels);
-        write_back(verdict, pair.timing, values, labels);
+        if is_barred(tick, verdict, clock, limit, call) {
+            let here = control_of(pc, pair, clock, first, second, end, why);
+            return halting(here, pause.left);
+        }
         control = control_after(pair, first, second, end, why, pc, clock, limit, verdict);
+        write_back(verdict, pair.timing, values, labels);
         left = pause.left - 1;
         if once {
             return halting(control, left);

@@ -1,6 +1,7 @@
 -- `engine::steps::stride` meets its contract.
 -- Assumes nothing.
 use mathlib.Core.Path.{sym, refl, _∙_}
+use native.Mathlib.Nat.{le-refl}
 use borrow.Author.Needs.{needs}
 use Rattle.engine.proofs.Driving.{ranges-there, strode-there}
 use Rattle.engine.proofs.steps.stride.Statement.{statement}
@@ -11,7 +12,7 @@ is-fitting-requires c κs = search needs
 
 drive-requires : tie.Need-drive-requires
 drive-requires c κs =
-    ranges-there (sym (c .before .before .before .before .is-fitting .ensures) ∙ c .before .before .before .if1 .taken)
+    (ranges-there (sym (c .before .before .before .before .is-fitting .ensures) ∙ c .before .before .before .if1 .taken), le-refl _)
 
 same-length : tie.Need-same-length
 same-length c = search needs
@@ -20,7 +21,7 @@ returns : tie.Need-returns
 returns c =
     let driven = c .before .before in
     let tested = driven .before .before .before .before in
-    driven .drive .ensures .one refl
+    driven .drive .ensures .one refl refl
     ∙ sym (strode-there _ _ _ (ranges-there (sym (tested .before .is-fitting .ensures) ∙ tested .if1 .taken)))
 
 same-length-2 : tie.Need-same-length-2

@@ -15,6 +15,9 @@ step-count-requires c κs =
     let start = c .before .before .before .before .before .before in
     let f = fit (recordOf (start .args .self)) (start .pre .0) in (f .clock, f .fixed .limitHigh)
 
+last-tick-requires : tie.Need-last-tick-requires
+last-tick-requires c κs = search needs
+
 advance-requires : tie.Need-advance-requires
 advance-requires c κs = search needs
 
@@ -26,12 +29,12 @@ same-length-2 c = search needs
 
 returns : tie.Need-returns
 returns c =
-    let counted = c .before .before .before .before .before .before .before in
+    let timed = c .before .before .before .before .before .before .before in
+    let counted = timed .before in
     let start = counted .before .before .before .before .before .before .before in
-    carried-of (counted .step-count .ensures)
-    (c .before .before .advance .ensures
-    ∙ advanced-there _ _ _
-    (ranges-of (recordOf (start .args .self)) (start .pre .0) (lent (start .args .words .now) (start .args .labels .now)) (start .pre .1)))
+    let ranges = ranges-of (recordOf (start .args .self)) (start .pre .0) (lent (start .args .words .now) (start .args .labels .now)) (start .pre .1) in
+    carried-of (ranges .clock) (counted .step-count .ensures) (timed .last-tick .ensures)
+    (c .before .before .advance .ensures ∙ advanced-there _ _ _ _ ranges)
 
 pub carried-spec : {M : Type 1} → statement M
-carried-spec = tie.close (tie.spec step-count-requires advance-requires same-length same-length-2 returns)
+carried-spec = tie.close (tie.spec step-count-requires last-tick-requires advance-requires same-length same-length-2 returns)

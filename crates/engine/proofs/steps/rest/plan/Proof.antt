@@ -46,16 +46,16 @@ rest-requires : tie.Need-rest-requires
 rest-requires c κs = (ready-rest (c .before .stop .given .1) (c .before .before .before .pre .0) .1, ready-rest (c .before .stop .given .1) (c .before .before .before .pre .0) .0, c .before .before .before .pre .1, c .before .before .before .pre .2)
 
 returns : tie.Need-returns
-returns c = planned-out (c .enum-told .given .1) tt tt
+returns c = planned-out (c .enum-told .given .1) refl
 
 returns-2 : tie.Need-returns-2
 returns-2 c = planned-late (c .before .before .enum-told2 .given .1) (c .before .is-upcall .ensures) (c .late .ensures)
 
 returns-3 : tie.Need-returns-3
-returns-3 c = planned-fault 1 (λ s h. rw (c .before .before .enum-told3 .given .1) at h) (c .before .is-upcall2 .ensures) (c .fault .ensures)
+returns-3 c = planned-fault 1 (λ s. rw (c .before .before .enum-told3 .given .1)) (c .before .is-upcall2 .ensures) (c .fault .ensures)
 
 returns-4 : tie.Need-returns-4
-returns-4 c = planned-fault 2 (λ s h. rw (c .before .before .enum-told4 .given .1) at h) (c .before .is-upcall3 .ensures) (c .fault2 .ensures)
+returns-4 c = planned-fault 2 (λ s. rw (c .before .before .enum-told4 .given .1)) (c .before .is-upcall3 .ensures) (c .fault2 .ensures)
 
 returns-5 : tie.Need-returns-5
 returns-5 c = planned-failed (c .enum-told5 .given .1) refl
