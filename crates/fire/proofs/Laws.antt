@@ -13,7 +13,7 @@ use Rattle.model.specs.Record.{Bank}
 use Rattle.model.specs.Step.{run}
 use Rattle.model.specs.Answer.{Answer, runAnswer}
 use Rattle.model.specs.Load.{Loading, load}
-use Rattle.model.specs.Listing.{line, listing, Printing, print}
+use Rattle.model.specs.Listing.{line, listing, Printing, listed, print}
 use Rattle.model.specs.Program.{stateOfLoad, reply, memoryAfter, Firing, fire}
 use Rattle.model.proofs.Program.{run-done, print-done, load-ready, run-load-ready}
 use Rattle.writer.specs.Writing.{Writing, answer, over, written, writing}
@@ -81,10 +81,10 @@ module _ (text : List ℕ) (m : Bank) (out : List ℕ) (a : Loading) (e : a ≡ 
   -- An accepted load: its state was run, and the state after the run printed.
   pub accepted-firing : (b : Answer) (p : Printing) → a .outcome ≡ Done → b ≡ runAnswer (a .machine) (a .memory)
       → p ≡ print (b .machine) (b .memory) out → printed p (b .memory) ≡ fire text m out
-  unfolding fire reply memoryAfter
+  unfolding fire reply memoryAfter listed
   accepted-firing b p y f g =
       let z : load text m .outcome ≡ Done = ap (λ (x : Loading). x .outcome) (sym e) ∙ y in
       let s = stateOfLoad (load text m) in
       let i = (rw e at f) ∙ run-done s (load-ready text m z) in
-      let j = (rw i at g) ∙ print-done (run s) out (run-load-ready text m z) in
+      let j = (rw i at g) ∙ print-done _ (run s) out (run-load-ready text m z) in
       rw (j, i, z) (choice-printed (leb (length (listing (run s))) (length out)) _ _ (run s .memory))

@@ -1,7 +1,9 @@
-// Printing a machine: its listing, written into lent output line by line, each into the part that begins where the line
-// before it ended. The length is known before the first byte is written, so a refusal leaves the output as it was.
+// Printing a machine: its listing for a viewer's label, written into lent output line by line, each into the part that
+// begins where the line before it ended. The length is known before the first byte is written, so a refusal leaves the
+// output as it was.
 use causes::Cause;
 use causes::Outcome;
+use labels::Label;
 use machine::Machine;
 use machine::is_blank;
 use machine::is_lent_whole;
@@ -11,20 +13,26 @@ use model::Pair;
 use model::numbers::REGISTER_COUNT;
 use writer::write_line;
 ghost use mathlib.Core.Path.{_≡_};
+ghost use mathlib.Core.Bool.{_&&_};
+ghost use mathlib.Core.List.{[], _∷_};
 ghost use Prim.Native.Nat.{_+_, _*_, _≤_};
 ghost use lib.ListN.{length};
 ghost use Rattle.model.specs.Record.{lent};
 ghost use Rattle.model.specs.Numbers.{mostFields};
-ghost use Rattle.model.specs.Listing.{line, endFields, callFields, callLine, headLines, isListed, entryLine, entryLines, listing};
+ghost use Rattle.model.specs.Seen.{within};
+ghost use Rattle.model.specs.Listing.{line, endFields, callFields, callLine, headLines, headFor, isListed, entryFor, entryLines, listingFor, listed, printFor};
 ghost use Rattle.model.specs.Listing.{print as Listing·print};
+ghost use Rattle.texts.specs.Inner.Sight.{controlSeen, entrySeen, bankSeen};
 ghost use Rattle.machine.specs.Answered.{recordOf};
 ghost use Rattle.printer.specs.Printing.{printingOf};
-ghost use Rattle.printer.specs.Inner.Placing.{stateWith, printedWhole, Entries, longest, longestEntry, Placed};
+ghost use Rattle.printer.specs.Inner.Placing.{stateWith, Entries, longest, longestEntry, Placed};
 
 // The letters of the lines.
 const E: u8 = b'E';
 
 const F: u8 = b'F';
+
+const H: u8 = b'H';
 
 const R: u8 = b'R';
 
@@ -42,6 +50,19 @@ pub struct Printed {
     pub machine: Machine,
 }
 
+// A part of the listing: the letter of its lines, and of how many entries it tells.
+struct Section {
+    letter: u8,
+    count: usize,
+}
+
+// A register or a word: its number, its label and its value.
+struct Entry {
+    number: usize,
+    label: u8,
+    value: u32,
+}
+
 // A refusal gives the record back.
 fn refused(machine: Machine, cause: Cause) -> Printed
     ensures { λ r. ⌜ r ≡ record { outcome = Outcome.Refused cause; bytes = 0; machine = machine } ⌝ }
@@ -53,9 +74,22 @@ fn refused(machine: Machine, cause: Cause) -> Printed
     }
 }
 
-// Prints the machine with the memory that is lent to it.
+// Prints the machine with the memory that is lent to it: everything, for the label that every other flows to.
 pub fn print(machine: Machine, words: &[u32], labels: &[u8], out: &mut [u8]) -> Printed
     ensures { λ r. ⌜ printingOf r (now (out .exit)) ≡ Listing·print (recordOf machine) (lent (now (words .entry)) (now (labels .entry))) (now (out .entry)) ⌝ }
+{
+    print_for(machine, Label::HIGHEST.0, words, labels, out)
+}
+
+// Prints what the label `viewer` sees of it.
+pub fn print_for(
+    machine: Machine,
+    viewer: u8,
+    words: &[u32],
+    labels: &[u8],
+    out: &mut [u8],
+) -> Printed
+    ensures { λ r. ⌜ printingOf r (now (out .exit)) ≡ printFor viewer (recordOf machine) (lent (now (words .entry)) (now (labels .entry))) (now (out .entry)) ⌝ }
 {
     let fixed = machine.fixed;
     let well_formed = machine.is_well_formed();
@@ -66,19 +100,25 @@ pub fn print(machine: Machine, words: &[u32], labels: &[u8], out: &mut [u8]) -> 
     if !whole {
         return refused(machine, Cause::ShortMemory);
     }
-    print_whole(machine, words, labels, out)
+    print_whole(machine, viewer, words, labels, out)
 }
 
 // Prints a machine whose memory is whole, where the output is long enough.
-fn print_whole(machine: Machine, words: &[u32], labels: &[u8], out: &mut [u8]) -> Printed
+fn print_whole(
+    machine: Machine,
+    viewer: u8,
+    words: &[u32],
+    labels: &[u8],
+    out: &mut [u8],
+) -> Printed
     requires { ⌜ Entries (now words) (now labels) (machine .fixed .size) ⌝ }
-    ensures { λ r. ⌜ printingOf r (now (out .exit)) ≡ printedWhole (recordOf machine) (lent (now (words .entry)) (now (labels .entry))) (now (out .entry)) ⌝ }
+    ensures { λ r. ⌜ printingOf r (now (out .exit)) ≡ listed (recordOf machine) (listingFor viewer (stateWith machine (now (words .entry)) (now (labels .entry)))) (now (out .entry)) ⌝ }
 {
-    let count = listing_length(machine, words, labels);
+    let count = listing_length(machine, viewer, words, labels);
     if out.len() < count {
         return refused(machine, Cause::ShortOutput);
     }
-    write_listing(out, machine, words, labels);
+    write_listing(out, machine, viewer, words, labels);
     Printed {
         outcome: Outcome::Done,
         bytes: count,
@@ -87,29 +127,43 @@ fn print_whole(machine: Machine, words: &[u32], labels: &[u8], out: &mut [u8]) -
 }
 
 // How many bytes the listing takes: where it would end in an output without a byte.
-fn listing_length(machine: Machine, words: &[u32], labels: &[u8]) -> usize
+fn listing_length(machine: Machine, viewer: u8, words: &[u32], labels: &[u8]) -> usize
     requires { ⌜ Entries (now words) (now labels) (machine .fixed .size) ⌝ }
-    ensures { λ r. ⌜ r ≡ length (listing (stateWith machine (now (words .entry)) (now (labels .entry)))) ⌝ }
+    ensures { λ r. ⌜ r ≡ length (listingFor viewer (stateWith machine (now (words .entry)) (now (labels .entry)))) ⌝ }
 {
     let mut none = [0u8; 0];
-    write_listing(&mut none, machine, words, labels)
+    write_listing(&mut none, machine, viewer, words, labels)
 }
 
 // ---- writing: each function is lent the output and the place where the line before it ended, and gives the place where
 // its own last line ends, whether it fits or not.
 
 // Writes the listing.
-fn write_listing(out: &mut [u8], machine: Machine, words: &[u32], labels: &[u8]) -> usize
+fn write_listing(
+    out: &mut [u8],
+    machine: Machine,
+    viewer: u8,
+    words: &[u32],
+    labels: &[u8],
+) -> usize
     requires { ⌜ Entries (now words) (now labels) (machine .fixed .size) ⌝ }
-    ensures { λ r. ⌜ Placed (listing (stateWith machine (now (words .entry)) (now (labels .entry)))) (now (out .entry)) 0 r (now (out .exit)) ⌝ }
+    ensures { λ r. ⌜ Placed (listingFor viewer (stateWith machine (now (words .entry)) (now (labels .entry)))) (now (out .entry)) 0 r (now (out .exit)) ⌝ }
 {
     let control = machine.control;
     let values = machine.values;
     let marks = machine.labels;
     let size = machine.fixed.size as usize;
-    let mut at = write_head(out, control);
-    at = write_entries(out, at, R, &values, &marks, REGISTER_COUNT);
-    write_entries(out, at, W, words, labels, size)
+    let registers = Section {
+        letter: R,
+        count: REGISTER_COUNT,
+    };
+    let memory = Section {
+        letter: W,
+        count: size,
+    };
+    let mut at = write_head(out, viewer, control);
+    at = write_entries(out, at, viewer, registers, &values, &marks);
+    write_entries(out, at, viewer, memory, words, labels)
 }
 
 // Writes a line.
@@ -123,10 +177,31 @@ fn write_line_at(out: &mut [u8], at: usize, letter: u8, numbers: &[u64]) -> usiz
     at + write_line(&mut out[at..], letter, numbers)
 }
 
+// ---- what the viewer sees
+
+// Whether what bears this label is seen: it flows to the viewer's.
+fn is_seen(viewer: u8, label: u8) -> bool
+    ensures { λ r. ⌜ r ≡ within viewer label ⌝ }
+{
+    Label(label).flows_to(Label(viewer))
+}
+
 // ---- the E line and the F lines
 
+// Writes them, or a line `H` in their place where the pc label is not seen.
+fn write_head(out: &mut [u8], viewer: u8, control: Control) -> usize
+    ensures { λ r. ⌜ Placed (headFor (controlSeen viewer control)) (now (out .entry)) 0 r (now (out .exit)) ⌝ }
+{
+    let pair = control.pair;
+    if is_seen(viewer, pair.pc) {
+        return write_head_lines(out, control);
+    }
+    let none = [0u64; 0];
+    write_line_at(out, 0, H, &none)
+}
+
 // Writes them, the older call first.
-fn write_head(out: &mut [u8], control: Control) -> usize
+fn write_head_lines(out: &mut [u8], control: Control) -> usize
     ensures { λ r. ⌜ Placed (headLines control) (now (out .entry)) 0 r (now (out .exit)) ⌝ }
 {
     let first = control.first;
@@ -178,44 +253,56 @@ fn call_fields(kind: u64, back: u32, pair: Pair, tick: u64) -> [u64; 5]
 
 // ---- R and W lines
 
-// Writes the lines of the first `count` entries.
+// Writes the lines of a section.
 fn write_entries(
     out: &mut [u8],
     start: usize,
-    letter: u8,
+    viewer: u8,
+    section: Section,
     values: &[u32],
     labels: &[u8],
-    count: usize,
 ) -> usize
-    requires { ⌜ Entries (now values) (now labels) count × (start + longestEntry * count ≤ longest) ⌝ }
-    ensures { λ r. ⌜ Placed (entryLines letter (lent (now (values .entry)) (now (labels .entry))) 0 count) (now (out .entry)) start r (now (out .exit)) ⌝ }
+    requires { ⌜ Entries (now values) (now labels) (section .count) × (start + longestEntry * section .count ≤ longest) ⌝ }
+    ensures { λ r. ⌜ Placed (entryLines (section .letter) (bankSeen viewer (lent (now (values .entry)) (now (labels .entry)))) 0 (section .count)) (now (out .entry)) start r (now (out .exit)) ⌝ }
 {
     let mut at = start;
     let mut k = 0;
-    while k < count {
+    while k < section.count {
         let label = labels[k];
         let value = values[k];
-        at = write_entry(out, at, letter, k, label, value);
+        let entry = Entry {
+            number: k,
+            label,
+            value,
+        };
+        at = write_entry(out, at, viewer, section.letter, entry);
         k += 1;
     }
     at
 }
 
 // Writes the line of an entry, if it has one.
-fn write_entry(out: &mut [u8], at: usize, letter: u8, k: usize, label: u8, value: u32) -> usize
+fn write_entry(out: &mut [u8], at: usize, viewer: u8, letter: u8, entry: Entry) -> usize
     requires { ⌜ at ≤ longest ⌝ }
-    ensures { λ r. ⌜ Placed (entryLine letter k label value) (now (out .entry)) at r (now (out .exit)) ⌝ }
+    ensures { λ r. ⌜ Placed (entryFor letter (entry .number) (entrySeen viewer (entry .label) (entry .value))) (now (out .entry)) at r (now (out .exit)) ⌝ }
 {
-    if is_listed(label, value) {
-        write_line_at(out, at, letter, &[k as u64, label as u64, value as u64])
+    if is_listed(viewer, entry.label, entry.value) {
+        write_line_at(out, at, letter, &entry_fields(entry))
     } else {
         at
     }
 }
 
-// Whether an entry differs from value 0, label 240.
-fn is_listed(label: u8, value: u32) -> bool
-    ensures { λ r. ⌜ r ≡ isListed label value ⌝ }
+// The fields of its line: number, label, value.
+fn entry_fields(entry: Entry) -> [u64; 3]
+    ensures { λ r. ⌜ r ≡ entry .number ∷ entry .label ∷ entry .value ∷ [] ⌝ }
 {
-    !is_blank(label, value)
+    [entry.number as u64, entry.label as u64, entry.value as u64]
+}
+
+// Whether an entry is seen and differs from value 0, label 240.
+fn is_listed(viewer: u8, label: u8, value: u32) -> bool
+    ensures { λ r. ⌜ r ≡ (within viewer label && isListed label value) ⌝ }
+{
+    is_seen(viewer, label) & !is_blank(label, value)
 }

@@ -1,4 +1,5 @@
--- How long a listing can be: at most 45,478 bytes for a well-formed record whose numbers have their types.
+-- How long a listing can be: at most 45,478 bytes for a well-formed record whose numbers have their types, whatever the
+-- label that it is listed for.
 -- Assumes nothing.
 use Prim.Native.Nat.{ℕ, zero, suc, _+_, _*_, _^_, _<_, _≤_}
 use mathlib.Core.Path.{_≡_}
@@ -13,15 +14,17 @@ use Rattle.model.specs.declared.Pair.{Pair}
 use Rattle.model.specs.declared.Control.{Control}
 use Rattle.model.specs.declared.Call.{Call}
 use Rattle.model.specs.Record.{Bank, State, machineOf}
-use Rattle.model.specs.Numbers.{valueCount}
+use Rattle.model.specs.Numbers.{letterH, letterR, letterW, registerCount, valueCount}
 use Rattle.model.specs.WellFormed.{endInRange}
 use Rattle.model.specs.Inner.Typed.{BankTyped, PairTyped, CallTyped, ControlTyped, Typed}
-use Rattle.model.specs.Listing.{decimal, line, endFields, callLine, isListed, entryLine, entryLines, listing}
+use Rattle.model.specs.Seen.{within, Seen, SeenControl}
+use Rattle.model.specs.Listing.{decimal, line, endFields, callLine, headFor, isListed, entryLine, entryFor, entryLines, listingFor}
 use Rattle.model.proofs.Truth.{and-iff, choice}
 use Rattle.model.proofs.Ready.{Fit, CallsFit, none, gate, upcall, both}
+use Rattle.texts.specs.Inner.Sight.{controlSeen, entrySeen, bankSeen}
 use Rattle.texts.proofs.Decimal.{digits-below}
-use Rattle.texts.proofs.Fields.{three-fields, five-fields, six-fields}
-use Rattle.texts.proofs.Listing.{cond-most, head-length, entryAt, listing-length}
+use Rattle.texts.proofs.Fields.{line-most, three-fields, five-fields, six-fields}
+use Rattle.texts.proofs.Listing.{cond-most, head-length, listing-length}
 
 -- ---- the E line
 
@@ -79,11 +82,22 @@ calls-bound (both {k} {j} {e} {q} {r} v h) t u =
       call-bound 2 j e r (omega arith) (u .back) (u .pair) (h .bounded),
     )
 
+-- ---- both
+
+-- What stands for the E and F lines is no longer than they are.
+head-bound : (ℓ : ℕ) (s : State) → Fit (machineOf s) → ControlTyped (s .control)
+    → length (headFor (controlSeen ℓ (s .control))) ≤ 102
+unfolding controlSeen
+head-bound ℓ s f t =
+    choice (λ (h : SeenControl). length (headFor h) ≤ 102) (within ℓ (s .control .pair .pc)) _ _
+    (λ _. omega (arith, head-length (s .control), end-bound s f t, calls-bound (f .calls) (t .first) (t .second)))
+    (λ _. omega (arith, line-most letterH []))
+
 -- ---- R and W lines
 
 -- An entry whose number has at most so many digits.
 entry-bound : (letter : ℕ) (b : Bank) (w n k : ℕ) → BankTyped n b → k < n → length (decimal k) ≤ w
-    → length (entryAt letter b k) ≤ 18 + w
+    → length (entryLine letter k (getD (b .labels) k 0) (getD (b .values) k 0)) ≤ 18 + w
 unfolding entryLine
 entry-bound letter b w n k t i h =
     omega (
@@ -94,35 +108,42 @@ entry-bound letter b w n k t i h =
       digits-below 9 (getD (b .values) k 0) (omega (arith, t .values k i)),
     )
 
+-- The same for what ℓ sees of it.
+seen-bound : (ℓ letter : ℕ) (b : Bank) (w n k : ℕ) → BankTyped n b → k < n → length (decimal k) ≤ w
+    → length (entryFor letter k (bankSeen ℓ b k)) ≤ 18 + w
+unfolding entrySeen
+seen-bound ℓ letter b w n k t i h =
+    choice (λ (x : Seen). length (entryFor letter k x) ≤ 18 + w) (within ℓ (getD (b .labels) k 0)) _ _
+    (λ _. entry-bound letter b w n k t i h) (λ _. omega arith)
+
 -- Some of the first m entries, which are at most 10^(w + 1).
-some-entries : (letter : ℕ) (b : Bank) (w m j n : ℕ) → BankTyped m b → m ≤ 10 ^ suc w → j + n ≤ m
-    → length (entryLines letter b j n) ≤ (18 + suc w) * n
+some-entries : (ℓ letter : ℕ) (b : Bank) (w m j n : ℕ) → BankTyped m b → m ≤ 10 ^ suc w → j + n ≤ m
+    → length (entryLines letter (bankSeen ℓ b) j n) ≤ (18 + suc w) * n
 unfolding entryLines
-some-entries letter b w m j zero t h i = omega arith
-some-entries letter b w m j (suc n) t h i =
+some-entries ℓ letter b w m j zero t h i = omega arith
+some-entries ℓ letter b w m j (suc n) t h i =
     let d = digits-below w j (omega arith) in
     rw mul-suc
     (simp length-append
-    (omega (arith, entry-bound letter b (suc w) m j t (omega arith) d, some-entries letter b w m (j + 1) n t h (omega arith))))
+    (omega (arith, seen-bound ℓ letter b (suc w) m j t (omega arith) d, some-entries ℓ letter b w m (j + 1) n t h (omega arith))))
 
 -- All of them.
-pub entries-bound : (letter : ℕ) (b : Bank) (w n : ℕ) → BankTyped n b → n ≤ 10 ^ suc w
-    → length (entryLines letter b 0 n) ≤ (18 + suc w) * n
-entries-bound letter b w n t h = some-entries letter b w n 0 n t h (omega arith)
+pub entries-bound : (ℓ letter : ℕ) (b : Bank) (w n : ℕ) → BankTyped n b → n ≤ 10 ^ suc w
+    → length (entryLines letter (bankSeen ℓ b) 0 n) ≤ (18 + suc w) * n
+entries-bound ℓ letter b w n t h = some-entries ℓ letter b w n 0 n t h (omega arith)
 
 -- ---- the listing
 
 -- The listing of a well-formed record whose numbers have their types takes at most 45,478 bytes: 34 for the E line,
 -- 34 for each of two F lines, 20 for each of 16 R lines and 22 for each of 2,048 W lines.
-pub listing-bound : (s : State) → Fit (machineOf s) → ControlTyped (s .control) → Typed s → length (listing s) ≤ 45478
-listing-bound s f c t =
-    rw (listing-length s)
+pub listing-bound : (ℓ : ℕ) (s : State) → Fit (machineOf s) → ControlTyped (s .control) → Typed s
+    → length (listingFor ℓ s) ≤ 45478
+listing-bound ℓ s f c t =
+    rw (listing-length ℓ s (f .fixed .sizeHigh))
     (omega (
       arith,
-      head-length (s .control),
-      end-bound s f c,
-      calls-bound (f .calls) (c .first) (c .second),
-      entries-bound 82 (s .registers) 1 16 (t .registers .numbers) (omega arith),
-      entries-bound 87 (s .memory) 3 (s .fixed .size) (t .memory) (omega (arith, f .fixed .sizeHigh)),
+      head-bound ℓ s f c,
+      entries-bound ℓ letterR (s .registers) 1 registerCount (t .registers .numbers) (omega arith),
+      entries-bound ℓ letterW (s .memory) 3 (s .fixed .size) (t .memory) (omega (arith, f .fixed .sizeHigh)),
       f .fixed .sizeHigh,
     ))

@@ -1,62 +1,91 @@
--- What the programs print fits their buffer: every reply takes at most 45,718 bytes, for every text and every memory, so
--- that an output of 65,536 bytes is never too short. Nor is a memory of 2,048 words and labels.
+-- What the programs print fits their buffer: every reply takes at most 45,718 bytes, for every text and every memory, a
+-- view's for every label and tick, so that an output of 65,536 bytes is never too short. Nor is a memory of 2,048 words and
+-- labels.
 -- Assumes nothing.
 use Prim.Native.Nat.{ℕ, _≤_}
 use mathlib.Core.Path.{_≡_, refl}
-use mathlib.Core.List.{List, [], _∷_}
+use mathlib.Core.List.{List, [], _∷_, _++_}
 use native.Mathlib.Omega.{arith}
+use lib.Dec.{leb}
 use lib.ListN.{length, take, drop, length-append, length-replicate}
 use lib.Seq.{take-append-seam}
 use borrow.Author.Tests.{le-leb}
-use Rattle.causes.specs.declared.Cause.the-variants.{ShortMemory}
+use Rattle.causes.specs.declared.Cause.the-variants.{ShortMemory, TickAboveLimit}
 use Rattle.causes.specs.declared.Outcome.the-variants.{Refused}
 use Rattle.causes.specs.Causes.{numberOf, isDone}
 use Rattle.causes.proofs.Numbers.{is-done}
+use Rattle.labels.specs.Label.{highest}
 use Rattle.model.specs.Record.{Bank, State}
-use Rattle.model.specs.Step.{run}
+use Rattle.model.specs.Numbers.{letterR, letterW, letterX, registerCount}
+use Rattle.model.specs.Step.{run, runTo}
 use Rattle.model.specs.Load.{load}
-use Rattle.model.specs.Listing.{listing}
+use Rattle.model.specs.Listing.{line, listingFor}
 use Rattle.model.specs.Program.{stateOfLoad, reply, Firing, fire, fireWhole, programMemory}
+use Rattle.model.specs.View.{Look, look, viewReply}
 use Rattle.model.proofs.Truth.{choice}
 use Rattle.model.proofs.Ready.{Ready}
 use Rattle.model.proofs.Load.{load-not-short}
-use Rattle.model.proofs.Program.{run-load-ready}
+use Rattle.model.proofs.RunTo.{run-to-ready}
+use Rattle.model.proofs.Program.{load-ready, run-load-ready}
+use Rattle.texts.specs.Inner.Sight.{controlSeen}
 use Rattle.texts.proofs.Fields.{line-most}
-use Rattle.texts.proofs.Listing.{head-most, listing-length}
+use Rattle.texts.proofs.Listing.{head-for-most, listing-length}
 use Rattle.texts.proofs.Bound.{entries-bound}
 
--- The listing of a ready state: 342 bytes for the E and F lines, 20 for each R line and 22 for each W line are enough.
-ready-bound : (s : State) → Ready s → length (listing s) ≤ 45718
-ready-bound s r =
-    rw (listing-length s)
+-- The listing of a ready state, for any label: 342 bytes for the E and F lines, 20 for each R line and 22 for each W line
+-- are enough.
+ready-bound : (ℓ : ℕ) (s : State) → Ready s → length (listingFor ℓ s) ≤ 45718
+ready-bound ℓ s r =
+    rw (listing-length ℓ s (r .fit .fixed .sizeHigh))
     (omega (
       arith,
-      head-most (s .control),
-      entries-bound 82 (s .registers) 1 16 (r .typed .registers .numbers) (omega arith),
-      entries-bound 87 (s .memory) 3 (s .fixed .size) (r .typed .memory) (omega (arith, r .fit .fixed .sizeHigh)),
+      head-for-most (controlSeen ℓ (s .control)),
+      entries-bound ℓ letterR (s .registers) 1 registerCount (r .typed .registers .numbers) (omega arith),
+      entries-bound ℓ letterW (s .memory) 3 (s .fixed .size) (r .typed .memory) (omega (arith, r .fit .fixed .sizeHigh)),
       r .fit .fixed .sizeHigh,
     ))
+
+-- The line of a refusal.
+refusal-bound : (number value : ℕ) → length (line letterX (number ∷ value ∷ [])) ≤ 45718
+refusal-bound number value = omega (arith, line-most letterX (number ∷ value ∷ []))
 
 -- A reply: that listing, or a refusal's line.
 pub reply-bound : (text : List ℕ) (m : Bank) → length (reply (load text m)) ≤ 45718
 unfolding reply
 reply-bound text m =
     let a = load text m in
-    choice (λ (o : List ℕ). length o ≤ 45718) (isDone (a .outcome)) _ _ (λ e. ready-bound (run (stateOfLoad a)) (run-load-ready text m (is-done (a .outcome) e)))
-    (λ e. omega (arith, line-most 88 (numberOf (a .outcome) ∷ a .line ∷ [])))
+    choice (λ (o : List ℕ). length o ≤ 45718) (isDone (a .outcome)) _ _
+    (λ e. ready-bound highest (run (stateOfLoad a)) (run-load-ready text m (is-done (a .outcome) e)))
+    (λ e. refusal-bound (numberOf (a .outcome)) (a .line))
+
+-- A view's reply: the listing at a tick, or a refusal's line.
+pub view-reply-bound : (ℓ k : ℕ) (text : List ℕ) (m : Bank) → length (viewReply ℓ (look k (load text m))) ≤ 45718
+unfolding look
+view-reply-bound ℓ k text m =
+    let a = load text m in
+    let s = stateOfLoad a in
+    choice (λ (x : Look). length (viewReply ℓ x) ≤ 45718) (isDone (a .outcome)) _ _
+    (λ e.
+    choice (λ (x : Look). length (viewReply ℓ x) ≤ 45718) (leb k (s .fixed .limit)) _ _
+    (λ _. ready-bound ℓ (runTo k s) (run-to-ready k s (load-ready text m (is-done (a .outcome) e))))
+    (λ _. refusal-bound (numberOf (Refused TickAboveLimit)) (s .fixed .limit)))
+    (λ e. refusal-bound (numberOf (a .outcome)) (a .line))
 
 -- So an output of 65,536 bytes gets the reply whole.
 pub whole-reply : (text : List ℕ) (m : Bank) (out : List ℕ) → 65536 ≤ length out → fire text m out ≡ fireWhole text m out
 unfolding fire fireWhole
 whole-reply text m out h = rw (le-leb (length (reply (load text m))) (length out) (omega (arith, reply-bound text m)))
 
--- The bytes that were written count bytes of the output.
+-- The bytes of a text that stands at the start of an output count bytes of the output.
+pub front-counts : (o out : List ℕ)
+    → (let after = o ++ drop (length o) out in (length o ≤ length after) × (length o ≡ length (take (length o) after)))
+front-counts o out = rw (take-append-seam o (drop (length o) out), length-append o (drop (length o) out)) (omega arith, refl)
+
+-- So do those that were written of a reply.
 pub whole-counts : (text : List ℕ) (m : Bank) (out : List ℕ) (f : Firing) → f ≡ fireWhole text m out
     → (f .bytes ≤ length (f .output)) × (f .bytes ≡ length (take (f .bytes) (f .output)))
 unfolding fireWhole
-whole-counts text m out f e =
-    let o = reply (load text m) in
-    rw (e, take-append-seam o (drop (length o) out), length-append o (drop (length o) out)) (omega arith, refl)
+whole-counts text m out f e = rw e (front-counts (reply (load text m)) out)
 
 -- The program's memory is never too short for a text: its reply is never that of refusal 6.
 pub alone-not-short : (text : List ℕ) → load text programMemory .outcome ≡ Refused ShortMemory → ⊥

@@ -1,5 +1,5 @@
--- What the lent memory held before a firing does not show: into any two memories of the same lengths a text gives one
--- reply. So a file that is fired again, or after another, prints what it prints in a fresh memory.
+-- What the lent memory held before a firing or a view does not show: into any two memories of the same lengths a text gives
+-- one reply. So a file that is fired again, or after another, prints what it prints in a fresh memory.
 -- Assumes nothing.
 use Prim.Native.Nat.{ℕ, zero, suc, _+_, _-_, _<_, _≤_}
 use mathlib.Core.Path.{_≡_, refl, ap, _∙_, sym, subst}
@@ -8,19 +8,20 @@ use mathlib.Core.Bool.{true, false, cond}
 use mathlib.Core.List.{List, [], _∷_, _++_}
 use native.Mathlib.Nat.{lt-of-lt-of-le}
 use native.Mathlib.Omega.{arith}
-use lib.Dec.{ltb}
+use lib.Dec.{leb, ltb}
 use lib.ListN.{length, drop, getD, replicate, length-set, length-append, length-replicate, List·getD-append}
 use borrow.Author.Tests.{ltb-true}
-use Rattle.labels.specs.Label.{lowest}
+use Rattle.labels.specs.Label.{lowest, highest}
 use Rattle.causes.specs.declared.Outcome.the-variants.{Done}
 use Rattle.causes.specs.Causes.{isDone}
 use Rattle.causes.proofs.Numbers.{is-done}
 use Rattle.model.specs.declared.Control.{Control}
-use Rattle.model.specs.Record.{Bank, Machine, State, register, word, valueAt, labelAt, machineOf, stateOf}
+use Rattle.model.specs.Record.{Bank, Machine, State, Location, register, word, valueAt, labelAt, machineOf, stateOf}
 use Rattle.model.specs.Word.{Op, immediate, arithmetic, load as loadWord, store, branch, jump, readClock, setLabel, setPair, upcall, endUpcall, gateCall, gateReturn, halt}
 use Rattle.model.specs.Ops.{Write, nothing, value, label, newPairAllowed, mayUpcall, mayCallGate, mayReturn, Rb, table}
-use Rattle.model.specs.Step.{Fetched, failed, fetched, fetch, Decision, rest, spend, stall, close, carry, endTick, finish, fault, attempt, inTime, plan, beyondLimit, inLimit, running, decide, written, causeAllowed, causeWrite, writeOf, controlAfter, withControl, apply, step, steps, run}
-use Rattle.model.specs.Listing.{entryLines, line, listing}
+use Rattle.model.specs.Step.{Fetched, failed, fetched, fetch, Decision, rest, spend, stall, close, carry, endTick, finish, fault, attempt, inTime, plan, beyondLimit, inLimit, running, decide, written, causeAllowed, causeWrite, writeOf, controlAfter, withControl, apply, step, steps, run, finishesBy, stepBy, stepsBy, runTo}
+use Rattle.model.specs.Seen.{exists, seenAt, seenControl, LowEquivalent}
+use Rattle.model.specs.Listing.{listingFor, listing}
 use Rattle.model.specs.declared.format.Line.{Line}
 use Rattle.model.specs.declared.format.Line.the-variants.{M, G, R, W, Malformed}
 use Rattle.model.specs.declared.judging.Header.{Header}
@@ -28,12 +29,14 @@ use Rattle.model.specs.WellFormed.{lentWhole}
 use Rattle.model.specs.Text.{lines}
 use Rattle.model.specs.Load.{withEntry, headerTests, Verdict, refuse, accept, judgeHeader, judgeLines, judgeText, cleared, withWord, fill, Loading, settle, load}
 use Rattle.model.specs.Program.{stateOfLoad, reply}
+use Rattle.model.specs.View.{look, viewReply}
 use Rattle.model.proofs.Truth.{either, and-iff}
 use Rattle.model.proofs.Writes.{set-at, written-fixed}
 use Rattle.model.proofs.Legal.{LegalWrite, keeps, sets, marks}
 use Rattle.model.proofs.Ready.{Ready}
 use Rattle.model.proofs.Step.{step-write, step-ready}
 use Rattle.model.proofs.Program.{load-ready}
+use Rattle.model.proofs.View.{same-listing}
 use Rattle.texts.proofs.Ranges.{entry-range}
 use Rattle.texts.specs.Inner.Storable.{isStorable, storable}
 use Rattle.texts.proofs.Storable.{text-storable}
@@ -116,6 +119,18 @@ module _ (r : Machine) (m n : Bank) (a : Agree (r .fixed .size) m n) where
   decide-same =
       ap (λ (d : Decision). cond (running one) d rest)
       (ap (inLimit one) (ap (plan one) fetch-same ∙ plan-same (fetch two)) ∙ limit-same (plan two (fetch two)))
+
+  -- So it finishes at one tick.
+  tick-same : (d : Decision) → finish one d ≡ finish two d
+  unfolding finish endTick
+  tick-same rest = refl
+  tick-same spend = refl
+  tick-same (stall why) = refl
+  tick-same (close cause) = refl
+  tick-same (carry ticks c) = refl
+
+  finish-same : finish one (decide one) ≡ finish two (decide two)
+  finish-same = ap (finish one) decide-same ∙ tick-same (decide two)
 
   -- What it writes, and where it leaves the control.
   write-same : (d : Decision) → writeOf one d ≡ writeOf two d
@@ -218,24 +233,52 @@ run-alike s t h x y =
     let e = ap (λ (r : Machine). r .fixed .limit - r .control .clock + 1) (h .machine) in
     subst (λ (i : ℕ). Alike (steps k s) (steps i t)) e (steps-alike k s t h x y)
 
+-- ---- a run to a tick
+
+-- The steps of alike states finish by a tick or don't, both.
+timely-alike : (k : ℕ) (s t : State) → Alike s t → finishesBy k s ≡ finishesBy k t
+unfolding finishesBy
+timely-alike k s t h =
+    ap (λ (i : ℕ). leb i k) (finish-same (machineOf s) (s .memory) (t .memory) (h .memory))
+    ∙ ap (λ (r : Machine). finishesBy k (stateOf r (t .memory))) (h .machine)
+
+steps-by-alike : (k n : ℕ) (s t : State) → Alike s t → Ready s → Ready t → Alike (stepsBy k n s) (stepsBy k n t)
+unfolding stepsBy stepBy
+steps-by-alike k zero s t h x y = h
+steps-by-alike k (suc n) s t h x y =
+    ⊎-elim
+    (λ (e : finishesBy k s ≡ true).
+    rw (e, sym (timely-alike k s t h) ∙ e)
+    (steps-by-alike k n (step s) (step t) (step-alike s t h x y) (step-ready s x) (step-ready t y)))
+    (λ (e : finishesBy k s ≡ false). rw (e, sym (timely-alike k s t h) ∙ e) (steps-by-alike k n s t h x y))
+    (either (finishesBy k s))
+
+run-to-alike : (k : ℕ) (s t : State) → Alike s t → Ready s → Ready t → Alike (runTo k s) (runTo k t)
+unfolding runTo
+run-to-alike k s t h x y =
+    let n : ℕ = s .fixed .limit - s .control .clock + 1 in
+    let e = ap (λ (r : Machine). r .fixed .limit - r .control .clock + 1) (h .machine) in
+    subst (λ (i : ℕ). Alike (stepsBy k n s) (stepsBy k i t)) e (steps-by-alike k n s t h x y)
+
 -- ---- the listing
 
--- It reads below the size.
-entries-same : (letter size : ℕ) (m n : Bank) → Agree size m n → (j k : ℕ) → j + k ≤ size
-    → entryLines letter m j k ≡ entryLines letter n j k
-unfolding entryLines
-entries-same letter size m n a j zero h = refl
-entries-same letter size m n a j (suc k) h =
-    rw (a .values j (omega arith), a .labels j (omega arith), entries-same letter size m n a (j + 1) k (omega arith))
+-- Every label sees the same of both: of memory only what lies below the size.
+sight-both : (ℓ : ℕ) (r : Machine) (m n : Bank) → Agree (r .fixed .size) m n → LowEquivalent ℓ (stateOf r m) (stateOf r n)
+unfolding seenAt exists valueAt labelAt seenControl
+sight-both ℓ r m n a = record { locations = at-location; control = refl }
+  where
+    at-location : (x : Location) → seenAt ℓ (stateOf r m) x ≡ seenAt ℓ (stateOf r n) x
+    at-location (register k) = refl
+    at-location (word k) =
+        ⊎-elim
+        (λ (e : ltb k (r .fixed .size) ≡ true). let h = ltb-true _ _ e in rw (a .values k h, a .labels k h))
+        (λ (e : ltb k (r .fixed .size) ≡ false). rw e)
+        (either (ltb k (r .fixed .size)))
 
-listing-both : (r : Machine) (m n : Bank) → Agree (r .fixed .size) m n → listing (stateOf r m) ≡ listing (stateOf r n)
-unfolding listing
-listing-both r m n a = rw (entries-same 87 (r .fixed .size) m n a 0 (r .fixed .size) (omega arith))
-
-listing-alike : (s t : State) → Alike s t → listing s ≡ listing t
-listing-alike s t h =
-    listing-both (machineOf s) (s .memory) (t .memory) (h .memory)
-    ∙ ap (λ (r : Machine). listing (stateOf r (t .memory))) (h .machine)
+listing-alike : (ℓ : ℕ) (s t : State) → Alike s t → listingFor ℓ s ≡ listingFor ℓ t
+listing-alike ℓ s t h =
+    same-listing ℓ s (stateOf (machineOf s) (t .memory)) (sight-both ℓ (machineOf s) (s .memory) (t .memory) (h .memory))
+    ∙ ap (λ (r : Machine). listingFor ℓ (stateOf r (t .memory))) (h .machine)
 
 -- ---- a load
 
@@ -355,15 +398,24 @@ module _ (m n : Bank) (e : length (m .values) ≡ length (n .values)) (f : lengt
 
   -- ---- the reply
 
-  -- An accepted text's listing.
+  -- What an accepted text leaves.
+  loaded-alike : (text : List ℕ) → Alike (stateOfLoad (load text m)) (stateOfLoad (load text n))
+  loaded-alike text = let h = load-alike text in record { machine = h .machine; memory = h .memory }
+
+  -- An accepted text's listing, after its run and at a tick.
   run-same : (text : List ℕ) → load text m .outcome ≡ Done → load text n .outcome ≡ Done
       → listing (run (stateOfLoad (load text m))) ≡ listing (run (stateOfLoad (load text n)))
   run-same text z u =
       let s = stateOfLoad (load text m) in
       let t = stateOfLoad (load text n) in
-      let h = load-alike text in
-      listing-alike (run s) (run t)
-      (run-alike s t (record { machine = h .machine; memory = h .memory }) (load-ready text m z) (load-ready text n u))
+      listing-alike highest (run s) (run t) (run-alike s t (loaded-alike text) (load-ready text m z) (load-ready text n u))
+
+  run-to-same : (ℓ k : ℕ) (text : List ℕ) → load text m .outcome ≡ Done → load text n .outcome ≡ Done
+      → listingFor ℓ (runTo k (stateOfLoad (load text m))) ≡ listingFor ℓ (runTo k (stateOfLoad (load text n)))
+  run-to-same ℓ k text z u =
+      let s = stateOfLoad (load text m) in
+      let t = stateOfLoad (load text n) in
+      listing-alike ℓ (runTo k s) (runTo k t) (run-to-alike k s t (loaded-alike text) (load-ready text m z) (load-ready text n u))
 
   -- A text gives one reply in both.
   pub same-reply : (text : List ℕ) → reply (load text m) ≡ reply (load text n)
@@ -375,6 +427,26 @@ module _ (m n : Bank) (e : length (m .values) ≡ length (n .values)) (f : lengt
       let i = is-done (load text m .outcome) z in
       let j = sym (h .outcome) ∙ i in
       rw (i, j) (run-same text i j))
+      (λ (z : isDone (load text m .outcome) ≡ false).
+      let j = ap isDone (sym (h .outcome)) ∙ z in
+      rw (z, j) (rw (h .outcome, h .line) refl))
+      (either (isDone (load text m .outcome)))
+
+  -- And one view's reply, for every label and tick.
+  pub same-view-reply : (ℓ k : ℕ) (text : List ℕ) → viewReply ℓ (look k (load text m)) ≡ viewReply ℓ (look k (load text n))
+  unfolding look
+  same-view-reply ℓ k text =
+      let h = load-alike text in
+      ⊎-elim
+      (λ (z : isDone (load text m .outcome) ≡ true).
+      let i = is-done (load text m .outcome) z in
+      let j = sym (h .outcome) ∙ i in
+      ⊎-elim
+      (λ (e : leb k (load text m .machine .fixed .limit) ≡ true).
+      rw (i, j, e, (rw (h .machine) at e)) (run-to-same ℓ k text i j))
+      (λ (e : leb k (load text m .machine .fixed .limit) ≡ false).
+      rw (i, j, e, (rw (h .machine) at e)) (rw (h .machine) refl))
+      (either (leb k (load text m .machine .fixed .limit))))
       (λ (z : isDone (load text m .outcome) ≡ false).
       let j = ap isDone (sym (h .outcome)) ∙ z in
       rw (z, j) (rw (h .outcome, h .line) refl))

@@ -1,2 +1,3 @@
 -- Definitions that no public promise cites.
 pub mod Storable
+pub mod Sight

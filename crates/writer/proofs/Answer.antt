@@ -8,7 +8,7 @@ use lib.ListN.{length, set, length-set}
 use borrow.Author.Tests.{le-leb, lt-leb}
 use borrow.Rule.Slice.PartMut.{putMid}
 use Rattle.model.specs.Listing.{fields, line}
-use Rattle.writer.specs.Writing.{Writing, answer, written, writing}
+use Rattle.writer.specs.Writing.{over, Writing, answer, written, writing}
 use Rattle.writer.specs.Inner.Wrote.{Wrote}
 use Rattle.texts.proofs.Fields.{line-length, line-most}
 use Rattle.writer.proofs.Over.{rest, wrote-length, wrote-byte, wrote-then, wrote-last}
@@ -72,3 +72,8 @@ module _ (letter : ℕ) (ns out : List ℕ) {after : List ℕ} {count : ℕ} (fe
     pub answer-most : count ≤ 128
     unfolding written
     answer-most = let c = ap (λ (a : Writing). a .count) line-answer in omega (arith, line-most letter ns)
+
+    -- Where there is room for that, it was written whole.
+    pub line-whole : 128 ≤ length out → answer count after ≡ answer (length (line letter ns)) (over (line letter ns) out)
+    unfolding written
+    line-whole room = line-answer ∙ rw (le-leb (length (line letter ns)) (length out) (omega (arith, line-most letter ns)))

@@ -1,20 +1,24 @@
 -- `printer::print_whole` meets its contract. 8 where the output is shorter than the listing, else the listing.
 -- Assumes nothing.
+use Prim.Native.Nat.{ℕ}
+use mathlib.Core.List.{List}
 use native.Mathlib.Omega.{arith}
 use borrow.Author.Needs.{needs}
-use Rattle.model.specs.Record.{Machine, Bank}
+use Rattle.model.specs.Record.{Machine}
+use Rattle.model.specs.Listing.{listingFor}
 use Rattle.machine.specs.Answered.{recordOf}
-use Rattle.model.specs.Record.{lent}
-use Rattle.printer.proofs.Answers.{short-output, listed}
+use Rattle.printer.specs.Inner.Placing.{stateWith}
+use Rattle.printer.proofs.Answers.{short-output, long-output}
 use Rattle.printer.proofs.print_whole.Statement.{statement}
 use Rattle.printer.proofs.print_whole.Tie as tie
 
--- The record and the memory lent to it.
+-- The record, and its listing.
 abbrev record-of : tie.Start → Machine
 record-of start = recordOf (start .args .machine)
 
-abbrev memory-of : tie.Start → Bank
-memory-of start = lent (start .args .words .now) (start .args .labels .now)
+abbrev listing-of : tie.Start → List ℕ
+listing-of start =
+    listingFor (start .args .viewer) (stateWith (start .args .machine) (start .args .words .now) (start .args .labels .now))
 
 listing-length-requires : tie.Need-listing-length-requires
 listing-length-requires c κs = search needs
@@ -26,7 +30,7 @@ returns : tie.Need-returns
 returns c =
     let start = c .before .before .before .before .before .before in
     rw (c .refused .ensures)
-    (short-output (record-of start) (memory-of start) _ _ (c .before .before .listing-length .ensures) (c .before .if1 .taken))
+    (short-output (record-of start) (listing-of start) _ _ (c .before .before .listing-length .ensures) (c .before .if1 .taken))
 
 write-listing-requires : tie.Need-write-listing-requires
 write-listing-requires c κs = search needs
@@ -37,7 +41,7 @@ same-length c = search needs
 returns-2 : tie.Need-returns-2
 returns-2 c =
     let start = c .before .before .before .before .before .before .before .before .before in
-    listed (record-of start) (memory-of start) _ _
+    long-output (record-of start) (listing-of start) _ _
     (c .before .before .before .before .before .listing-length .ensures)
     (c .before .before .write-listing .ensures .output (omega arith))
 

@@ -1,24 +1,30 @@
 -- `printer::write_entries` meets its contract. The lines of the entries passed are written.
 -- Assumes nothing.
-use Prim.Native.Nat.{_-_, _≤_}
+use Prim.Native.Nat.{ℕ, _-_, _≤_}
 use mathlib.Core.Path.{_≡_, refl, _∙_}
 use native.Mathlib.Omega.{arith}
 use lib.ListN.{length}
-use borrow.Author.Needs.{needs}
-use Rattle.model.specs.Listing.{entryLines}
+use Rattle.model.specs.Seen.{Seen}
+use Rattle.model.specs.Listing.{entryFor, entryLines}
 use Rattle.printer.specs.Inner.Placing.{Placed}
 use Rattle.model.specs.Record.{lent}
+use Rattle.texts.specs.Inner.Sight.{bankSeen}
 use Rattle.texts.proofs.Listing.{entries-more, entries-most}
 use Rattle.printer.proofs.Places.{placed-none, placed-then}
 use Rattle.printer.proofs.write_entries.Statement.{statement}
 use Rattle.printer.proofs.write_entries.Tie as tie
 
 abbrev Inv-loop : tie.InvT-loop
-Inv-loop out₀ start letter values labels count at₀ k₀ out at k =
-    ((k ≤ count) × (length out ≡ length out₀)) × Placed (entryLines letter (lent values labels) 0 k) out₀ start at out
+Inv-loop out₀ start viewer section values labels at₀ k₀ out at k =
+    ((k ≤ section .count) × (length out ≡ length out₀))
+    × Placed (entryLines (section .letter) (bankSeen viewer (lent values labels)) 0 k) out₀ start at out
 
 abbrev μ-loop : tie.MeasureT-loop
-μ-loop out₀ start letter values labels count at₀ k₀ out at k = count - k
+μ-loop out₀ start viewer section values labels at₀ k₀ out at k = section .count - k
+
+-- What the viewer sees of the entries.
+abbrev bank-seen : tie.Start Inv-loop μ-loop → ℕ → Seen
+bank-seen start = bankSeen (start .args .viewer) (lent (start .args .values .now) (start .args .labels .now))
 
 loop-holds : tie.Need-loop-holds Inv-loop μ-loop
 unfolding entryLines
@@ -35,13 +41,13 @@ shared-slice-read-value c = omega arith
 
 write-entry-requires : tie.Need-write-entry-requires Inv-loop μ-loop
 write-entry-requires c κs =
-    let start = c .before .before .before .before .before .before .before .before in
-    let loop = c .before .before .before .before .loop in
+    let loop = c .before .before .before .before .before .loop in
+    let start = c .before .before .before .before .before .before .before .before .before in
     omega (
       arith,
       loop .inv .1 .place,
       start .pre .1,
-      entries-most (start .args .letter) (lent (start .args .values .now) (start .args .labels .now)) 0 (loop .k),
+      entries-most (start .args .section .letter) (bank-seen start) 0 (loop .k),
     )
 
 add-k : tie.Need-add-k Inv-loop μ-loop
@@ -52,20 +58,22 @@ loop-less c = omega arith
 
 loop-again : tie.Need-loop-again Inv-loop μ-loop
 loop-again c =
-    let start = c .before .before .before .before .before .before .before .before .before .before .before in
-    let loop = c .before .before .before .before .before .before .before .loop in (
+    let loop = c .before .before .before .before .before .before .before .before .loop in
+    let start = c .before .before .before .before .before .before .before .before .before .before .before .before in (
       (omega arith, c .before .before .write-entry .kept .0 ∙ loop .inv .0 .1),
-      rw (entries-more (start .args .letter) (lent (start .args .values .now) (start .args .labels .now)) (loop .k))
-          (placed-then (loop .inv .1) (c .before .before .write-entry .ensures)),
+      rw (entries-more (start .args .section .letter) (bank-seen start) (loop .k))
+          (placed-then {b = entryFor (start .args .section .letter) (loop .k) (bank-seen start (loop .k))} (loop .inv .1)
+          (c .before .before .write-entry .ensures)),
     )
 
 same-length : tie.Need-same-length Inv-loop μ-loop
-same-length c = c .before .loop .inv .0 .1
+same-length c = c .before .before .loop .inv .0 .1
 
 returns : tie.Need-returns Inv-loop μ-loop
 returns c =
-    let e : c .before .loop .k ≡ c .before .before .before .before .before .args .count = omega arith in
-    rw e at (c .before .loop .inv .1)
+    let loop = c .before .before .loop in
+    let e : loop .k ≡ c .before .before .before .before .before .before .args .section .count = omega arith in
+    rw e at (loop .inv .1)
 
 pub write-entries-spec : {M : Type 1} → statement M
 write-entries-spec =

@@ -1,19 +1,24 @@
--- `printer::write_head` meets its contract. One line behind the other.
+-- `printer::write_head` meets its contract. By whether the pc label is seen.
 -- Assumes nothing.
-use Prim.Native.Nat.{_≤_}
-use native.Mathlib.Omega.{arith}
+use mathlib.Core.Path.{sym, _∙_}
 use borrow.Author.Needs.{needs}
-use Rattle.model.specs.Numbers.{letterE}
-use Rattle.model.specs.Listing.{line, endFields, headLines}
-use Rattle.texts.proofs.Fields.{line-most}
-use Rattle.printer.specs.Inner.Placing.{Placed}
-use Rattle.texts.proofs.Listing.{call-most}
-use Rattle.printer.proofs.Places.{placed-then}
+use Rattle.texts.proofs.Listing.{head-seen}
 use Rattle.printer.proofs.write_head.Statement.{statement}
 use Rattle.printer.proofs.write_head.Tie as tie
 
-end-fields-requires : tie.Need-end-fields-requires
-end-fields-requires c κs = search needs
+is-seen-requires : tie.Need-is-seen-requires
+is-seen-requires c κs = search needs
+
+write-head-lines-requires : tie.Need-write-head-lines-requires
+write-head-lines-requires c κs = search needs
+
+same-length : tie.Need-same-length
+same-length c = search needs
+
+returns : tie.Need-returns
+returns c =
+    let tested = c .before .before .before .before in
+    rw (head-seen _ _, sym (tested .before .is-seen .ensures) ∙ tested .if1 .taken) (c .before .before .write-head-lines .ensures)
 
 slice-aggregate-write-line-at : tie.Need-slice-aggregate-write-line-at
 slice-aggregate-write-line-at c = search needs
@@ -21,50 +26,23 @@ slice-aggregate-write-line-at c = search needs
 write-line-at-requires : tie.Need-write-line-at-requires
 write-line-at-requires c κs = search needs
 
--- The E line is written.
-end-line : (c : tie.After-write-line-at)
-    → Placed (line letterE (endFields (c .before .before .before .before .before .args .control)))
-    (c .before .before .before .before .before .args .out .now) 0 (c .write-line-at .result) (c .write-line-at .last .0)
-end-line c = rw (c .before .before .before .end-fields .ensures) at (c .write-line-at .ensures)
+same-length-2 : tie.Need-same-length-2
+same-length-2 c = search needs
 
--- It ends within 128 bytes.
-end-place : (c : tie.After-write-line-at) → c .write-line-at .result ≤ 128
-end-place c =
-    omega (arith, end-line c .place, line-most letterE (endFields (c .before .before .before .before .before .args .control)))
-
-write-call-requires : tie.Need-write-call-requires
-write-call-requires c κs = omega (arith, end-place (c .before .before .before))
-
-write-call-requires-2 : tie.Need-write-call-requires-2
-write-call-requires-2 c κs =
-    let ended = c .before .before .before .before .before .before .before in
-    omega (
-      arith,
-      end-place ended,
-      c .before .before .before .write-call .ensures .place,
-      call-most (ended .before .before .before .before .before .args .control .first),
-      call-most (ended .before .before .before .before .before .args .control .second),
-    )
-
-same-length : tie.Need-same-length
-same-length c = search needs
-
-returns : tie.Need-returns
-unfolding headLines
-returns c =
-    placed-then
-    (placed-then (end-line (c .before .before .before .before .before .before .before .before .before .before))
-    (c .before .before .before .before .before .before .write-call .ensures))
-    (c .before .before .write-call2 .ensures)
+returns-2 : tie.Need-returns-2
+returns-2 c =
+    let tested = c .before .before .before .before .before in
+    rw (head-seen _ _, sym (tested .before .is-seen .ensures) ∙ tested .if1 .left) (c .before .before .write-line-at .ensures)
 
 pub write-head-spec : {M : Type 1} → statement M
 write-head-spec =
     tie.close
     (tie.spec
-    end-fields-requires
+    is-seen-requires
+    write-head-lines-requires
+    same-length
+    returns
     slice-aggregate-write-line-at
     write-line-at-requires
-    write-call-requires
-    write-call-requires-2
-    same-length
-    returns)
+    same-length-2
+    returns-2)

@@ -3,13 +3,9 @@
 use Prim.Native.Nat.{ℕ, _+_, _≤_}
 use mathlib.Core.Path.{_≡_}
 use mathlib.Core.List.{List, _++_}
-use lib.Dec.{leb}
 use lib.ListN.{length, take}
-use Rattle.causes.specs.declared.Cause.the-variants.{ShortOutput}
-use Rattle.causes.specs.Tests.{unless}
 use Rattle.model.specs.Numbers.{mostWords}
-use Rattle.model.specs.Record.{Bank, Machine, State, stateOf, lent}
-use Rattle.model.specs.Listing.{listing, Printing, notPrinted, printed}
+use Rattle.model.specs.Record.{State, stateOf, lent}
 use Rattle.writer.specs.Inner.Wrote.{Wrote}
 use Rattle.machine.specs.declared.Machine as struct
 use Rattle.machine.specs.Answered.{recordOf}
@@ -17,12 +13,6 @@ use Rattle.machine.specs.Answered.{recordOf}
 -- The state of a machine with lent words and labels.
 abbrev pub stateWith : struct.Machine → List ℕ → List ℕ → State
 stateWith m words labels = stateOf (recordOf m) (lent words labels)
-
--- The answer for a well-formed record whose memory is whole: 8 where the output is shorter than the listing.
-unfoldable pub printedWhole : Machine → Bank → List ℕ → Printing
-printedWhole r m out =
-    let text = listing (stateOf r m) in
-    unless (leb (length text) (length out)) (notPrinted ShortOutput r out) (printed r text out)
 
 -- There are so many entries, and no more than a machine has words.
 pub record Entries (values labels : List ℕ) (count : ℕ) : Type 0 where
