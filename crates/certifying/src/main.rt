@@ -9,7 +9,7 @@ use libc::STDERR_FILENO;
 use libc::STDIN_FILENO;
 use libc::STDOUT_FILENO;
 use model::format::Number;
-use reader::read_number;
+use reader::read_alone;
 
 // The argument's word: a label, or none.
 enum Named {
@@ -24,13 +24,9 @@ fn complain(what: &[u8]) {
 
 // The label that a word writes as a text does: one to ten digits without leading zeros, and nothing behind them.
 fn label_of(word: &[u8]) -> Named {
-    let Number::Value(value, next) = read_number(word) else {
+    let Number::Value(value, _) = read_alone(word) else {
         return Named::Nothing;
     };
-    // What stands behind a number begins one byte before `next`, which also counts the comma before a field.
-    if next <= word.len() {
-        return Named::Nothing;
-    }
     if value < LABEL_COUNT as u64 {
         return Named::Label(value as u8);
     }

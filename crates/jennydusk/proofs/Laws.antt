@@ -1,6 +1,6 @@
 -- From what the functions below promise to what the calls promise.
 -- Assumes nothing.
-use Prim.Native.Nat.{ℕ, _^_, _≤_}
+use Prim.Native.Nat.{ℕ, _+_, _^_, _≤_}
 use mathlib.Core.Path.{_≡_, refl, sym, ap, _∙_}
 use mathlib.Core.Bool.{Bool, true, false}
 use mathlib.Core.List.{List, [], _∷_}
@@ -13,6 +13,7 @@ use Rattle.model.specs.Answer as model
 use Rattle.model.specs.Load as loading
 use Rattle.model.specs.Listing as listing
 use Rattle.model.specs.Certificate as certificate
+use Rattle.model.specs.View as viewing
 use Rattle.model.proofs.Truth.{clash}
 use Rattle.machine.specs.declared.Answer as struct
 use Rattle.machine.specs.Answered.{recordOf, answered}
@@ -22,14 +23,16 @@ use Rattle.loader.specs.Load as load
 use Rattle.printer.specs.Printing as print
 use Rattle.certify.specs.declared.Certified.{Certified}
 use Rattle.certify.specs.Certified.{certificateOf, certifyingOf}
+use Rattle.view.specs.declared.Viewed.{Viewed}
+use Rattle.view.specs.Viewed.{viewedOf}
 use Rattle.decoder.specs.declared.Reading.{Reading}
 use Rattle.decoder.specs.declared.Found.the-variants as found
 use Rattle.decoder.specs.Held.{Holding, holds, nothing}
 use Rattle.decoder.specs.Reading.{Read, given, isFound, readOf}
-use Rattle.jennydusk.specs.Calls.{shortBuffer, noRecord, isShort, unlessShort, left, untouched, kept, keptRecord, afterAnswer, called, counted, afterLoading, certificateSpan, holdingCertificate, afterCertifying, shown, afterPrinting, unwritten, printed}
+use Rattle.jennydusk.specs.Calls.{shortBuffer, noRecord, isShort, unlessShort, left, untouched, kept, keptRecord, afterAnswer, called, counted, afterLoading, certificateSpan, holdingCertificate, afterCertifying, shown, afterPrinting, unwritten, printed, looked, afterViewing, viewCall}
 use Rattle.jennydusk.proofs.Length.{bytes-most}
 
--- ---- what all five calls try before everything else
+-- ---- what a call that is lent a record or a certificate tries before everything else
 
 module _ {A : Type 0} (refused : ℕ → A) (least : ℕ) (b : List ℕ) {test : Bool} (is : test ≡ isShort least b) where
   pub when-short : (answer : A) → test ≡ true → refused shortBuffer ≡ unlessShort refused least b answer
@@ -102,22 +105,33 @@ was-certified ℓ text m b a e n l k c = rw (k, c, n, l) (ap (λ (z : certificat
 
 -- The lengths that print answers fit an answer.
 pub small-length :
-    (r : Machine) (m : Bank) (before : List ℕ) (a : Printed) (after : List ℕ)
-    → print.printingOf a after ≡ listing.print r m before → a .bytes ≤ 2 ^ 32
-small-length r m before a after e = rw (ap (λ (z : listing.Printing). z .bytes) e) (bytes-most r m before)
+    (ℓ : ℕ) (r : Machine) (m : Bank) (before : List ℕ) (a : Printed) (after : List ℕ)
+    → print.printingOf a after ≡ listing.printFor ℓ r m before → a .bytes ≤ 2 ^ 32
+small-length ℓ r m before a after e = rw (ap (λ (z : listing.Printing). z .bytes) e) (bytes-most ℓ r m before)
 
-module _ (m : Bank) (before : List ℕ) (x : Reading) where
+module _ (ℓ : ℕ) (m : Bank) (before : List ℕ) (x : Reading) where
   -- A buffer that holds no record.
-  pub not-printed : (h : Holding) → readOf x ≡ given h → x .found ≡ found.Nothing → unwritten before noRecord ≡ printed h m before
+  pub not-printed : (h : Holding) → readOf x ≡ given h → x .found ≡ found.Nothing → unwritten before noRecord ≡ printed ℓ h m before
   not-printed (holds r) e n = no-record x e n
   not-printed nothing e n = refl
 
   -- A buffer that holds one.
   pub was-printed :
       (h : Holding) (a : Printed) {number length answer : ℕ} {after : List ℕ} → readOf x ≡ given h → x .found ≡ found.Record
-      → print.printingOf a after ≡ listing.print (recordOf (x .machine)) m before → number ≡ numberOf (a .outcome)
-      → length ≡ a .bytes → answer ≡ counted number length → shown answer after ≡ printed h m before
+      → print.printingOf a after ≡ listing.printFor ℓ (recordOf (x .machine)) m before → number ≡ numberOf (a .outcome)
+      → length ≡ a .bytes → answer ≡ counted number length → shown answer after ≡ printed ℓ h m before
   was-printed (holds r) a e n s k l c =
       rw (c, k, l)
-      (ap afterPrinting (s ∙ ap (λ (y : Machine). listing.print y m before) (same-record x e)))
+      (ap afterPrinting (s ∙ ap (λ (y : Machine). listing.printFor ℓ y m before) (same-record x e)))
   was-printed nothing a e n s k l c = some-record x e n
+
+-- ---- view
+
+-- The answer of view, handed on.
+pub was-viewed :
+    (ℓ k : ℕ) (text : List ℕ) (m : Bank) (out : List ℕ) (a : Viewed) {number count answer : ℕ} {after words labels : List ℕ}
+    → viewedOf a after words labels ≡ viewing.view ℓ k text m out → number ≡ numberOf (a .outcome)
+    → count ≡ a .value + a .bytes → answer ≡ counted number count
+    → looked answer after words labels ≡ viewCall text ℓ k m out
+unfolding viewCall
+was-viewed ℓ k text m out a e n l c = rw (c, n, l) (ap afterViewing e)

@@ -7,15 +7,17 @@ use mathlib.Core.Bool.{Bool, cond}
 use mathlib.Core.List.{List, _∷_}
 use lib.Dec.{ltb}
 use lib.ListN.{length, drop}
+use Rattle.labels.specs.Label.{highest}
 use Rattle.causes.specs.declared.Cause.the-variants.{IllFormed}
 use Rattle.causes.specs.declared.Outcome.{Outcome}
 use Rattle.causes.specs.declared.Outcome.the-variants.{Done, Refused}
 use Rattle.causes.specs.Causes.{numberOf}
 use Rattle.model.specs.Record.{Bank, Machine, lent}
-use Rattle.model.specs.Answer.{Answer, stepAnswer, runAnswer}
+use Rattle.model.specs.Answer.{Answer, stepAnswer, runAnswer, runToAnswer}
 use Rattle.model.specs.Load.{Loading, load}
-use Rattle.model.specs.Listing.{Printing, print}
+use Rattle.model.specs.Listing.{Printing, printFor}
 use Rattle.model.specs.Certificate.{Certificate, Certifying, certifying}
+use Rattle.model.specs.View.{View, view}
 use Rattle.encoder.specs.Places.{span}
 use Rattle.encoder.specs.Writing.{write}
 use Rattle.decoder.specs.Held.{Holding, holds, nothing, machineIn}
@@ -38,7 +40,7 @@ numbers = 256
 abbrev pub counted : ℕ → ℕ → ℕ
 counted number count = number + numbers * count
 
--- ---- what all five calls try before everything else
+-- ---- what a call that is lent a record or a certificate tries before everything else
 
 -- A buffer is shorter than so many words.
 unfoldable pub isShort : ℕ → List ℕ → Bool
@@ -48,7 +50,7 @@ isShort least b = ltb (length b) least
 abbrev pub unlessShort : {A : Type 0} → (ℕ → A) → ℕ → List ℕ → A → A
 unlessShort refused least b answer = cond (isShort least b) (refused shortBuffer) answer
 
--- ---- calls that may change a record: load, step, run
+-- ---- calls that may change a record: load, step, run, run to a tick
 
 -- The answer, the buffer at exit, and the lent memory at exit.
 pub record Left : Type 0 where
@@ -74,17 +76,17 @@ kept (Refused cause) written b = b
 abbrev pub keptRecord : Outcome → Machine → List ℕ → List ℕ
 keptRecord outcome r b = kept outcome (write r b .buffer) b
 
--- After the answer of step or run.
+-- After the answer of step, run or run to a tick.
 abbrev pub afterAnswer : Answer → List ℕ → Left
 afterAnswer a b =
     record { answer = numberOf (a .outcome); buffer = keptRecord (a .outcome) (a .machine) b; memory = a .memory }
 
--- Step or run of what a buffer holds.
+-- One of these of what a buffer holds.
 abbrev pub called : (Machine → Bank → Answer) → Holding → List ℕ → Bank → Left
 called f nothing b m = untouched b m noRecord
 called f (holds r) b m = afterAnswer (f r m) b
 
--- Step or run of a buffer.
+-- One of these of a buffer.
 unfoldable pub recordCall : (Machine → Bank → Answer) → List ℕ → Bank → Left
 recordCall f b m = unlessShort (untouched b m) span b (called f (machineIn b) b m)
 
@@ -95,6 +97,10 @@ stepCall b m = recordCall stepAnswer b m
 -- jennydusk_run.
 unfoldable pub runCall : List ℕ → Bank → Left
 runCall b m = recordCall runAnswer b m
+
+-- jennydusk_run_to.
+unfoldable pub runToCall : ℕ → List ℕ → Bank → Left
+runToCall k b m = recordCall (runToAnswer k) b m
 
 -- After the answer of load: its number and line.
 abbrev pub afterLoading : Loading → List ℕ → Left
@@ -151,11 +157,36 @@ afterPrinting a = shown (counted (numberOf (a .outcome)) (a .bytes)) (a .output)
 abbrev pub unwritten : List ℕ → ℕ → Shown
 unwritten out answer = shown answer out
 
--- Print of what a buffer holds.
-abbrev pub printed : Holding → Bank → List ℕ → Shown
-printed nothing m out = unwritten out noRecord
-printed (holds r) m out = afterPrinting (print r m out)
+-- Print for the label ℓ of what a buffer holds.
+abbrev pub printed : ℕ → Holding → Bank → List ℕ → Shown
+printed ℓ nothing m out = unwritten out noRecord
+printed ℓ (holds r) m out = afterPrinting (printFor ℓ r m out)
 
--- jennydusk_print.
+-- jennydusk_print_for.
+unfoldable pub printForCall : ℕ → List ℕ → Bank → List ℕ → Shown
+printForCall ℓ b m out = unlessShort (unwritten out) span b (printed ℓ (machineIn b) m out)
+
+-- jennydusk_print: the listing of the highest label, which sees everything.
 unfoldable pub printCall : List ℕ → Bank → List ℕ → Shown
-printCall b m out = unlessShort (unwritten out) span b (printed (machineIn b) m out)
+printCall b m out = printForCall highest b m out
+
+-- ---- view, which loads a text, runs it to a tick and writes a listing
+
+-- The answer, the output and the lent memory at exit.
+pub record Looked : Type 0 where
+  pub answer : ℕ
+  pub output : List ℕ
+  pub memory : Bank
+
+-- These three.
+abbrev pub looked : ℕ → List ℕ → List ℕ → List ℕ → Looked
+looked answer output words labels = record { answer = answer; output = output; memory = lent words labels }
+
+-- After the answer of view: its number, and the line, the limit or the listing's length, of which two are always 0.
+abbrev pub afterViewing : View → Looked
+afterViewing a =
+    record { answer = counted (numberOf (a .outcome)) (a .value + a .bytes); output = a .output; memory = a .memory }
+
+-- jennydusk_view.
+unfoldable pub viewCall : List ℕ → ℕ → ℕ → Bank → List ℕ → Looked
+viewCall text ℓ k m out = afterViewing (view ℓ k text m out)

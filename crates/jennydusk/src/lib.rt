@@ -1,22 +1,23 @@
-// The machine for programs in other languages: load, step, run and print over buffers that the caller lends. A record
-// stands in a buffer of 64-bit words, as the crates encoder and decoder have it. Nothing is kept between calls. The
-// module certify_call has certificates for them, label_calls the label rules.
+// The machine for programs in other languages: load, step and run over buffers that the caller lends. A record stands in
+// a buffer of 64-bit words, as the crates encoder and decoder have it. Nothing is kept between calls. The module
+// print_calls has listings for them, view_call views, certify_call certificates, label_calls the label rules.
 use causes::Cause;
 use causes::Outcome;
 use decoder::Found;
 use loader::load;
 use machine::Machine;
 use model::Request;
-use printer::print;
 ghost use Prim.Native.Nat.{_≤_, _^_};
 ghost use mathlib.Core.Path.{_≡_};
 ghost use Rattle.model.specs.Record.{lent};
 ghost use Rattle.model.specs.Answer.{answerOf};
 ghost use Rattle.machine.specs.Answered.{recordOf};
-ghost use Rattle.jennydusk.specs.Calls.{isShort, noRecord, left, keptRecord, counted, recordCall, shown, loadCall, stepCall, runCall, printCall};
+ghost use Rattle.jennydusk.specs.Calls.{isShort, noRecord, left, keptRecord, counted, recordCall, loadCall, stepCall, runCall, runToCall};
 
 mod certify_call;
 mod label_calls;
+mod print_calls;
+mod view_call;
 
 // How many words a record takes.
 const RECORD_SPAN: usize = encoder::SPAN;
@@ -35,7 +36,7 @@ pub(in crate) fn is_short(buffer: &[u64], least: usize) -> bool
 }
 
 // The answer where the buffer holds no record: that of a record that is not well-formed.
-fn no_record() -> u64
+pub(in crate) fn no_record() -> u64
     ensures { λ r. ⌜ r ≡ noRecord ⌝ }
 {
     Outcome::Refused(Cause::IllFormed).number() as u64
@@ -80,7 +81,7 @@ pub extern "C" fn jennydusk_load(
     counted(number, line)
 }
 
-// One step of the record in the buffer, or its run: what the two calls below share.
+// One step of the record in the buffer, its run or its run to a tick: what the three calls below share.
 fn advanced(request: Request, record: &mut [u64], words: &mut [u32], labels: &mut [u8]) -> u64
     ensures { λ r. ⌜ left r (now («record» .exit)) (now (words .exit)) (now (labels .exit)) ≡ recordCall (answerOf request) (now («record» .entry)) (lent (now (words .entry)) (now (labels .entry))) ⌝ }
 {
@@ -116,28 +117,15 @@ pub extern "C" fn jennydusk_run(record: &mut [u64], words: &mut [u32], labels: &
     advanced(Request::Run, record, words, labels)
 }
 
-// Writes the listing of the record and its memory into `out`.
+// Steps of the record that finish at or before the tick.
 #[no_mangle]
-pub extern "C" fn jennydusk_print(
-    record: &[u64],
-    words: &[u32],
-    labels: &[u8],
-    out: &mut [u8],
+pub extern "C" fn jennydusk_run_to(
+    record: &mut [u64],
+    words: &mut [u32],
+    labels: &mut [u8],
+    tick: u64,
 ) -> u64
-    ensures { λ r. ⌜ shown r (now (out .exit)) ≡ printCall (now («record» .entry)) (lent (now (words .entry)) (now (labels .entry))) (now (out .entry)) ⌝ }
+    ensures { λ r. ⌜ left r (now («record» .exit)) (now (words .exit)) (now (labels .exit)) ≡ runToCall tick (now («record» .entry)) (lent (now (words .entry)) (now (labels .entry))) ⌝ }
 {
-    if is_short(record, RECORD_SPAN) {
-        return SHORT_BUFFER;
-    }
-    let reading = decoder::read(record);
-    let found = reading.found;
-    if let Found::Nothing = found {
-        return no_record();
-    }
-    let machine = reading.machine;
-    let printed = print(machine, words, labels, out);
-    let outcome = printed.outcome;
-    let number = outcome.number() as u64;
-    let bytes = printed.bytes as u64;
-    counted(number, bytes)
+    advanced(Request::RunTo(tick), record, words, labels)
 }

@@ -15,6 +15,7 @@ ghost use lib.Dec.{ltb};
 ghost use lib.ListN.{length, getD};
 ghost use Rattle.model.specs.Numbers.{digitZero, mostDigits};
 ghost use Rattle.model.specs.Text.{isDigit, number, field, readFields, fieldCount, lineOf, closed, readLine};
+ghost use Rattle.reader.specs.Alone.{numberAlone};
 ghost use Rattle.reader.specs.Inner.Reading.{fieldsOf};
 
 // A line that is malformed.
@@ -43,6 +44,20 @@ fn digit_value(byte: u8) -> u64
     ensures { λ r. ⌜ r ≡ byte - digitZero ⌝ }
 {
     (byte - b'0') as u64
+}
+
+// The number that a word is, with nothing behind it, as the programs' arguments are written.
+pub fn read_alone(word: &[u8]) -> Number
+    ensures { λ r. ⌜ r ≡ numberAlone (now (word .entry)) ⌝ }
+{
+    match read_number(word) {
+        Number::Value(value, next) => if next <= word.len() {
+            Number::Bad
+        } else {
+            Number::Value(value, next)
+        },
+        Number::Bad => Number::Bad,
+    }
 }
 
 // The number that a text begins with: one to ten digits without leading zeros.
