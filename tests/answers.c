@@ -1,16 +1,17 @@
-/* Calls the library on buffers that it must refuse, and sees that they are left; sees that register 0 stays; has
- * certificates made with each cause; and tries its label rules on every label, beside those of document 01 as they are
- * written here. Prints what went wrong. */
+/* Calls the library on buffers that it must refuse, and sees that they are left; sees that register 0 stays; runs to
+ * ticks, and has listed what a label sees there; has certificates made with each cause; and tries its label rules on
+ * every label, beside those of document 01 as they are written here. Prints what went wrong. */
 #include "jennydusk.h"
 
 #include <stdio.h>
 #include <string.h>
 
 #define SIZE 2
+#define ROOM 128
 
 static uint64_t record[JENNYDUSK_SPAN + 1], record_before[JENNYDUSK_SPAN + 1];
 static uint32_t words[SIZE], words_before[SIZE];
-static uint8_t labels[SIZE], labels_before[SIZE], output[64], output_before[64];
+static uint8_t labels[SIZE], labels_before[SIZE], output[ROOM], output_before[ROOM];
 static uint64_t certificate[JENNYDUSK_CERTIFICATE_SPAN + 1], certificate_before[JENNYDUSK_CERTIFICATE_SPAN + 1];
 static int wrong;
 
@@ -42,8 +43,20 @@ static uint64_t step(size_t size, size_t span) { return jennydusk_step(record, s
 
 static uint64_t run(size_t span) { return jennydusk_run(record, span, words, SIZE, labels, SIZE); }
 
+static uint64_t run_to(uint64_t tick, size_t size, size_t span) {
+    return jennydusk_run_to(record, span, words, size, labels, size, tick);
+}
+
 static uint64_t print(size_t length, size_t span) {
     return jennydusk_print(record, span, words, SIZE, labels, SIZE, output, length);
+}
+
+static uint64_t print_for(uint8_t label, size_t size, size_t length, size_t span) {
+    return jennydusk_print_for(record, span, words, size, labels, size, label, output, length);
+}
+
+static uint64_t view(const char *text, uint8_t label, uint64_t tick, size_t size, size_t length) {
+    return jennydusk_view((const uint8_t *)text, strlen(text), label, tick, words, size, labels, size, output, length);
 }
 
 static const char image[] = "M,2,1,0,240,240,5\nW,0,240,17825797\n"; /* Ra := 5, and no op behind it */
@@ -64,13 +77,16 @@ static void try_refused_loads(void) {
     expect("step of no record", step(SIZE, JENNYDUSK_SPAN), JENNYDUSK_NO_RECORD, 0);
 }
 
-/* A record buffer of this many words is too short for each of the four calls, whatever else they are given. */
+/* A record buffer of this many words is too short for each of the calls, whatever else they are given. */
 static void try_short_buffer(size_t span) {
     expect("load to a short buffer", load(image, SIZE, span), JENNYDUSK_SHORT_BUFFER, 0);
     expect("load of no text to a short buffer", load("", 0, span), JENNYDUSK_SHORT_BUFFER, 0);
     expect("step of a short buffer", step(SIZE, span), JENNYDUSK_SHORT_BUFFER, 0);
     expect("step of a short buffer and no words", step(0, span), JENNYDUSK_SHORT_BUFFER, 0);
     expect("run of a short buffer", run(span), JENNYDUSK_SHORT_BUFFER, 0);
+    expect("run of a short buffer to a tick", run_to(9, SIZE, span), JENNYDUSK_SHORT_BUFFER, 0);
+    expect("run of a short buffer and no words to a tick", run_to(9, 0, span), JENNYDUSK_SHORT_BUFFER, 0);
+    expect("print of a short buffer for a label", print_for(240, 0, 0, span), JENNYDUSK_SHORT_BUFFER, 0);
     expect("print of a short buffer", print(sizeof output, span), JENNYDUSK_SHORT_BUFFER, 0);
     expect("print of a short buffer to no output", print(0, span), JENNYDUSK_SHORT_BUFFER, 0);
 }
@@ -109,6 +125,8 @@ static void try_other_zero_register(size_t word, uint64_t other) {
     keep();
     expect("step of another register 0", step(SIZE, JENNYDUSK_SPAN), JENNYDUSK_NO_RECORD, 0);
     expect("run of another register 0", run(JENNYDUSK_SPAN), JENNYDUSK_NO_RECORD, 0);
+    expect("run of another register 0 to a tick", run_to(9, 0, JENNYDUSK_SPAN), JENNYDUSK_NO_RECORD, 0);
+    expect("print of another register 0 for a label", print_for(240, 0, 0, JENNYDUSK_SPAN), JENNYDUSK_NO_RECORD, 0);
     expect("print of another register 0", print(sizeof output, JENNYDUSK_SPAN), JENNYDUSK_NO_RECORD, 0);
     record[word] = own;
     keep();
@@ -125,6 +143,96 @@ static void try_no_records(void) {
     record[JENNYDUSK_LABEL(2)] = 256;
     keep();
     expect("label out of range", step(SIZE, JENNYDUSK_SPAN), JENNYDUSK_NO_RECORD, 0);
+}
+
+/* ---- views */
+
+/* Word 0 stores R2 into word 1 in three ticks. That is no op, so the run comes back to word 0 and stores again, until it
+ * may not: 3, 4, 7 and 8 are the clocks of its steps. */
+static const char store[] = "M,2,0,0,240,240,9\nR,1,240,1\nR,2,240,7\nR,3,255,5\nW,0,240,169934848\n";
+#define LISTED "R,1,240,1\nR,2,240,7\nW,0,240,169934848\n"
+
+/* The output begins with this listing, and what lies behind it is left; word 1 is this one. */
+static void expect_listing(const char *what, uint64_t answer, const char *listing, uint32_t second) {
+    size_t length = strlen(listing);
+    int good = answer == JENNYDUSK_DONE + 256 * (uint64_t)length && !memcmp(output, listing, length)
+        && !memcmp(output + length, output_before + length, sizeof output - length);
+    if (!good || words[0] != 169934848 || words[1] != second || labels[0] != 240 || labels[1] != 240)
+        wrong = 1, printf("%s: another answer, listing or memory\n", what);
+    keep();
+}
+
+/* A refusal that leaves the output, with word 1 as the run has it then. */
+static void expect_memory(const char *what, uint64_t answer, unsigned number, size_t count, uint32_t second) {
+    if (JENNYDUSK_NUMBER(answer) != number || JENNYDUSK_COUNT(answer) != count
+        || memcmp(output_before, output, sizeof output) || words[0] != 169934848 || words[1] != second)
+        wrong = 1, printf("%s: number %u, count %zu, or another memory or output\n", what, JENNYDUSK_NUMBER(answer),
+                          JENNYDUSK_COUNT(answer));
+    keep();
+}
+
+/* A call that is carried out, and does nothing. */
+static void expect_idle(const char *what, uint64_t answer) {
+    if (memcmp(record_before, record, sizeof record) || memcmp(words_before, words, sizeof words))
+        wrong = 1, printf("%s: it does something\n", what);
+    expect(what, answer, JENNYDUSK_DONE, 0);
+}
+
+/* The load's refusals come first, whatever the tick and the output, and leave all. */
+static void try_refused_views(void) {
+    memset(output, 4, sizeof output);
+    keep();
+    expect("view of no text", view("", 240, UINT64_MAX, SIZE, 0), JENNYDUSK_TEXT_LENGTH, 0);
+    expect("view of a bad line", view("M,2,1,0,240,240,5\nW,0,240\n", 240, 6, SIZE, 0), JENNYDUSK_MALFORMED, 2);
+    expect("view of a bad label", view("M,2,1,0,240,256,5\n", 240, 0, SIZE, 0), JENNYDUSK_RANGE, 1);
+    expect("view of no valid pair", view("M,2,1,0,15,15,5\n", 240, 6, SIZE, ROOM), JENNYDUSK_PAIR, 1);
+    expect("view of a line for register 0", view(zero_line, 240, 6, SIZE, 0), JENNYDUSK_ZERO_REGISTER, 2);
+    expect("view in short memory", view(store, 240, 10, SIZE - 1, 0), JENNYDUSK_SHORT_MEMORY, 1);
+}
+
+/* A tick above the limit, then an output that is too short. */
+static void try_views(void) {
+    expect_listing("view before the store", view(store, 240, 2, SIZE, ROOM), "E,0,0,0,0,240,240\n" LISTED, 0);
+    expect_listing("view after it", view(store, 240, 3, SIZE, ROOM), "E,0,0,3,1,240,240\n" LISTED "W,1,240,7\n", 7);
+    expect_listing("view below the limit", view(store, 240, 8, SIZE, ROOM), "E,0,0,8,0,240,240\n" LISTED "W,1,240,7\n", 7);
+    expect_listing("view at the limit", view(store, 240, 9, SIZE, ROOM), "E,2,0,9,0,240,240\n" LISTED "W,1,240,7\n", 7);
+    expect_memory("view above the limit", view(store, 240, 10, SIZE, 0), JENNYDUSK_TICK, 9, 0);
+    expect_memory("view at tick 2^32", view(store, 240, UINT64_C(1) << 32, SIZE, ROOM), JENNYDUSK_TICK, 9, 0);
+    size_t length = strlen("E,0,0,3,1,240,240\n" LISTED "W,1,240,7\n");
+    expect_memory("view to a short output", view(store, 240, 3, SIZE, length - 1), JENNYDUSK_SHORT_OUTPUT, 0, 7);
+    expect_memory("view to no output", view(store, 240, 2, SIZE, 0), JENNYDUSK_SHORT_OUTPUT, 0, 0);
+    expect_listing("view to just enough", view(store, 240, 3, SIZE, length), "E,0,0,3,1,240,240\n" LISTED "W,1,240,7\n", 7);
+}
+
+/* What is listed for a label, at the tick 0 of an image that stalls there, or for the highest one. */
+static void try_viewers(void) {
+    expect("view of a stall", view("M,1,0,0,240,240,5\n", 240, 0, SIZE, ROOM), JENNYDUSK_DONE, 18);
+    if (memcmp(output, "E,3,3,0,0,240,240\n", 18))
+        wrong = 1, puts("view of a stall: another listing");
+    expect("view of what is hidden", view("M,1,0,0,255,255,5\n", 240, 0, SIZE, ROOM), JENNYDUSK_DONE, 2);
+    if (memcmp(output, "H\n", 2))
+        wrong = 1, puts("view of what is hidden: another listing");
+    expect_listing("view for the highest label", view(store, JENNYDUSK_HIGHEST, 2, SIZE, ROOM),
+                   "E,0,0,0,0,240,240\nR,1,240,1\nR,2,240,7\nR,3,255,5\nW,0,240,169934848\n", 0);
+}
+
+/* The same run by a record of its own, from tick to tick. */
+static void try_run_to(void) {
+    expect("load", load(store, SIZE, JENNYDUSK_SPAN), JENNYDUSK_DONE, 0);
+    expect("run to a tick in short memory", run_to(9, SIZE - 1, JENNYDUSK_SPAN), JENNYDUSK_SHORT_MEMORY, 0);
+    expect("print for a label of short memory", print_for(240, SIZE - 1, 0, JENNYDUSK_SPAN), JENNYDUSK_SHORT_MEMORY, 0);
+    expect_idle("run to a tick before the first step's", run_to(2, SIZE, JENNYDUSK_SPAN));
+    expect("print for a label to a short output", print_for(240, SIZE, 8, JENNYDUSK_SPAN), JENNYDUSK_SHORT_OUTPUT, 0);
+    expect_listing("print for a label", print_for(240, SIZE, ROOM, JENNYDUSK_SPAN), "E,0,0,0,0,240,240\n" LISTED, 0);
+    expect("run to a tick", run_to(3, SIZE, JENNYDUSK_SPAN), JENNYDUSK_DONE, 0);
+    expect_idle("run to a tick that is past", run_to(0, SIZE, JENNYDUSK_SPAN));
+    expect_listing("print for a label", print_for(240, SIZE, ROOM, JENNYDUSK_SPAN),
+                   "E,0,0,3,1,240,240\n" LISTED "W,1,240,7\n", 7);
+    expect("run to a tick above the limit", run_to(UINT64_MAX, SIZE, JENNYDUSK_SPAN), JENNYDUSK_DONE, 0);
+    if (record[JENNYDUSK_END] != JENNYDUSK_CLOCK_SPENT || record[JENNYDUSK_CLOCK] != 9)
+        wrong = 1, puts("run to a tick above the limit: another end");
+    expect_listing("print for the highest label", print_for(JENNYDUSK_HIGHEST, SIZE, ROOM, JENNYDUSK_SPAN),
+                   "E,2,0,9,0,240,240\nR,1,240,1\nR,2,240,7\nR,3,255,5\nW,0,240,169934848\nW,1,240,7\n", 7);
 }
 
 /* ---- certificates */
@@ -162,7 +270,7 @@ static void expect_certificate(const char *what, const char *text, uint64_t caus
     for (size_t more = 0; more < 2; more++) {
         memset(certificate, 5, sizeof certificate);
         expect(what, certify(text, SIZE, SIZE, JENNYDUSK_CERTIFICATE_SPAN + more), JENNYDUSK_DONE, 0);
-        if (certificate[JENNYDUSK_CAUSE] != cause || certificate[JENNYDUSK_TICK] != tick
+        if (certificate[JENNYDUSK_CAUSE] != cause || certificate[JENNYDUSK_BREAK_TICK] != tick
             || certificate[JENNYDUSK_PLACE] != place || certificate[JENNYDUSK_CERTIFICATE_SPAN] != MARGIN)
             wrong = 1, printf("%s: another certificate\n", what);
     }
@@ -253,6 +361,10 @@ int main(void) {
     try_calls();
     try_zero_register();
     try_no_records();
+    try_refused_views();
+    try_views();
+    try_viewers();
+    try_run_to();
     try_refused_certificates();
     try_certificates();
     try_labels();

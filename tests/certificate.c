@@ -24,6 +24,6 @@ int main(int count, char **arguments) {
         printf("X,%u,%zu\n", JENNYDUSK_NUMBER(answer), JENNYDUSK_COUNT(answer));
     else
         printf("V,%llu,%llu,%llu\n", (unsigned long long)certificate[JENNYDUSK_CAUSE],
-               (unsigned long long)certificate[JENNYDUSK_TICK], (unsigned long long)certificate[JENNYDUSK_PLACE]);
+               (unsigned long long)certificate[JENNYDUSK_BREAK_TICK], (unsigned long long)certificate[JENNYDUSK_PLACE]);
     return 0;
 }

@@ -1,7 +1,7 @@
 //! What a call is lent. Each buffer is longer than what is lent of it, on both
 //! sides, so that a byte touched beyond shows.
 
-use crate::calls::Calls;
+use crate::calls::{Calls, Memory, Viewer};
 use crate::certificate;
 use crate::layout::{word_name, SPAN};
 use interpreter::generator::random::Random;
@@ -60,8 +60,8 @@ impl<T: Copy + PartialEq + Into<u64>> Buffer<T> {
     }
 }
 
-/// All that step, run and print are lent, and load and certify besides their
-/// text.
+/// All that step, run and print are lent, and load, certify and view besides
+/// their text.
 #[derive(Clone, Debug, PartialEq, Eq)]
 pub struct Lent {
     pub record: Buffer<u64>,
@@ -129,9 +129,25 @@ impl Lent {
         calls.run(record.get_mut(), words.get_mut(), labels.get_mut())
     }
 
+    pub fn run_to(&mut self, calls: &dyn Calls, tick: u64) -> u64 {
+        let Lent { record, words, labels, .. } = self;
+        calls.run_to(record.get_mut(), words.get_mut(), labels.get_mut(), tick)
+    }
+
     pub fn print(&mut self, calls: &dyn Calls) -> u64 {
         let Lent { record, words, labels, output, .. } = self;
         calls.print(record.get(), words.get(), labels.get(), output.get_mut())
+    }
+
+    pub fn print_for(&mut self, calls: &dyn Calls, viewer: Label) -> u64 {
+        let Lent { record, words, labels, output, .. } = self;
+        calls.print_for(record.get(), words.get(), labels.get(), viewer.0, output.get_mut())
+    }
+
+    pub fn view(&mut self, calls: &dyn Calls, text: &[u8], viewer: Viewer) -> u64 {
+        let Lent { words, labels, output, .. } = self;
+        let memory = Memory { words: words.get_mut(), labels: labels.get_mut() };
+        calls.view(text, viewer, memory, output.get_mut())
     }
 
     pub fn certify(&mut self, calls: &dyn Calls, level: Label, text: &[u8]) -> u64 {

@@ -1,10 +1,10 @@
 //! The library beside the interpreter.
 //!
 //! The library is called through its C functions, the interpreter through the
-//! same buffers. Four programs compare them: `listings` on generated images,
-//! `calls` on records and memory that no load gives, `pairs` on pairs of
-//! machines that differ in their secrets, `certificates` on pairs of which one
-//! is certified.
+//! same buffers. Five programs compare them: `listings` on generated images,
+//! `calls` on records and memory that no load gives, `views` at the ticks of
+//! generated images, `pairs` on pairs of machines that differ in their secrets,
+//! `certificates` on pairs of which one is certified.
 
 #![deny(unsafe_code)]
 
@@ -13,10 +13,13 @@ pub mod breaks;
 pub mod buffers;
 pub mod calls;
 pub mod certificate;
+pub mod chains;
 pub mod edges;
+pub mod fired;
 pub mod layout;
 pub mod library;
 pub mod loads;
+pub mod long_views;
 pub mod no_records;
 pub mod other;
 pub mod pairs;
@@ -25,3 +28,4 @@ pub mod random_records;
 pub mod tally;
 pub mod trials;
 pub mod verdict;
+pub mod views;

@@ -4,10 +4,10 @@
 
 use crate::bases::LONGEST;
 use crate::buffers::Lent;
-use crate::calls::{answer, Calls, SHORT_BUFFER};
+use crate::calls::{answer, Calls, MEMORY_SHORT, SHORT_BUFFER};
 use crate::certificate;
 use crate::layout::{at, SPAN};
-use crate::trials::{Call, Due, Trials, LENDINGS};
+use crate::trials::{Call, Due, Lending, Trials, LENDINGS};
 use interpreter::generator::census::Census;
 use interpreter::generator::compose::compose;
 use interpreter::generator::damage::{damage, PLANS};
@@ -78,21 +78,16 @@ impl Loading {
         names
     }
 
-    /// Buffers of some lengths for a text, and the answer that is due. Refusals
-    /// 1, and 2, 3 and 5 of the first line come before 6, which comes before
-    /// those of later lines; a short buffer before them all.
+    /// Buffers of some lengths for a text, and the answer that is due. A short
+    /// buffer comes before every refusal of the text.
     fn lend(self, trials: &mut Trials, random: &mut Random, text: &Text) -> (Lent, u64) {
         let size = size_of(&text.bytes);
         let (length_name, length) = &self.lengths()[random.weighted(&[12, 4, 2, 1])];
         let lending = if random.chance(40) { LENDINGS[0] } else { random.pick(&LENDINGS) };
         let mut lent = dirty(random, *length, size);
         lending.apply(random, &mut lent, size);
-        let is_early = text.number > 0 && text.line <= 1;
-        let (due, line) = match (*length < self.span, lending.is_short()) {
-            (true, _) => (SHORT_BUFFER, 0),
-            (false, true) if !is_early => (6, 1),
-            _ => (text.number, text.line),
-        };
+        let is_short = *length < self.span;
+        let (due, line) = if is_short { (SHORT_BUFFER, 0) } else { text.refusal_in(lending) };
         let tally = &mut trials.tally;
         tally.count(&self.kind(length_name));
         tally.count(&self.kind(lending.name));
@@ -112,10 +107,29 @@ impl Loading {
 
 /// A text with the refusal, number and line, that it gets in memory of enough
 /// words; 0 and 0 where it is accepted.
-struct Text {
-    bytes: Vec<u8>,
-    number: u64,
-    line: u64,
+pub struct Text {
+    pub bytes: Vec<u8>,
+    pub number: u64,
+    pub line: u64,
+}
+
+impl Text {
+    /// One damaged by each plan in turn.
+    pub fn damaged(random: &mut Random, turn: usize) -> Text {
+        let damaged = damage(random, PLANS[turn % PLANS.len()]);
+        let refusal = damaged.refusal;
+        Text { bytes: damaged.text, number: refusal.number.into(), line: refusal.line.into() }
+    }
+
+    /// The refusal that is due in memory that is lent so. 1, and 2, 3 and 5 of the
+    /// first line come before 6, which comes before those of later lines.
+    pub fn refusal_in(&self, lending: Lending) -> (u64, u64) {
+        let is_early = self.number > 0 && self.line <= 1;
+        if lending.is_short() && !is_early {
+            return (MEMORY_SHORT, 1);
+        }
+        (self.number, self.line)
+    }
 }
 
 /// A good text, or one damaged by each plan in turn.
@@ -124,9 +138,7 @@ fn text(random: &mut Random, turn: usize) -> Text {
         let bytes = compose(random, &Census::new()).text();
         return Text { bytes, number: 0, line: 0 };
     }
-    let damaged = damage(random, PLANS[turn % PLANS.len()]);
-    let refusal = damaged.refusal;
-    Text { bytes: damaged.text, number: refusal.number.into(), line: refusal.line.into() }
+    Text::damaged(random, turn)
 }
 
 /// A number of the first line, by its field, if it is one of this range.
@@ -137,7 +149,7 @@ fn first_line(text: &[u8], field: usize, range: RangeInclusive<usize>) -> Option
 }
 
 /// The size that the first line names, if it is one that memory is made for.
-fn size_of(text: &[u8]) -> usize {
+pub fn size_of(text: &[u8]) -> usize {
     first_line(text, 1, 1..=2_048).unwrap_or(8)
 }
 
@@ -151,7 +163,7 @@ fn choose_level(random: &mut Random, text: &[u8]) -> Label {
 
 /// Buffers with what an earlier use has left in them: a record's and a
 /// certificate's of this length, and memory.
-fn dirty(random: &mut Random, length: usize, size: usize) -> Lent {
+pub fn dirty(random: &mut Random, length: usize, size: usize) -> Lent {
     let buffer: Vec<u64> = (0..length).map(|_| random.bits().into()).collect();
     let words: Vec<u32> = (0..size).map(|_| random.bits()).collect();
     let labels: Vec<u8> = (0..size).map(|_| random.bits() as u8).collect();

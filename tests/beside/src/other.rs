@@ -1,18 +1,18 @@
 //! The interpreter behind the library's calls: a record is read from its
 //! buffer, and written back where the call is carried out.
 
-use crate::calls::{answer, Calls, NO_RECORD, SHORT_BUFFER};
+use crate::calls::{answer, Calls, Memory, Viewer, NO_RECORD, SHORT_BUFFER};
 use crate::certificate;
 use crate::layout::{at, read, words_of, SPAN};
 use interpreter::machine::MAX_GATES;
-use interpreter::{load, print, Label, Machine};
+use interpreter::{load, print, print_for, view, Label, Machine, NoView};
 
 /// The interpreter in Rust.
 pub struct Other;
 
-/// The record of a buffer, or the refusal. "Each of the five answers
-/// JENNYDUSK_SHORT_BUFFER where the buffer of the record or the certificate is
-/// too short, before it reads anything."
+/// The record of a buffer, or the refusal: JENNYDUSK_SHORT_BUFFER "where the
+/// buffer of the record or the certificate is too short, before it reads
+/// anything."
 fn record_in(buffer: &[u64]) -> Result<Machine, u64> {
     if buffer.len() < SPAN {
         return Err(SHORT_BUFFER);
@@ -32,6 +32,18 @@ fn change(record: &mut [u64], call: impl FnOnce(&mut Machine) -> Result<(), u8>)
             record[..SPAN].copy_from_slice(&words_of(&machine));
             0
         }
+        Err(number) => number.into(),
+    }
+}
+
+/// Lists the record of a buffer: 0 and 256 times the length, or the refusal.
+fn list(record: &[u64], call: impl FnOnce(&Machine) -> Result<usize, u8>) -> u64 {
+    let machine = match record_in(record) {
+        Ok(machine) => machine,
+        Err(number) => return number,
+    };
+    match call(&machine) {
+        Ok(length) => answer(0, length as u64),
         Err(number) => number.into(),
     }
 }
@@ -63,15 +75,36 @@ impl Calls for Other {
         change(record, |machine| machine.run(words, labels))
     }
 
+    /// Does every step that finishes at or before the tick and none that finishes
+    /// later. Answers as a run does.
+    fn run_to(&self, record: &mut [u64], words: &mut [u32], labels: &mut [u8], tick: u64) -> u64 {
+        change(record, |machine| machine.run_to(words, labels, tick))
+    }
+
     /// "Answers 0 and 256 times the listing's length, or 6, 7, 8 or 255."
     fn print(&self, record: &[u64], words: &[u32], labels: &[u8], output: &mut [u8]) -> u64 {
-        let machine = match record_in(record) {
-            Ok(machine) => machine,
-            Err(number) => return number,
-        };
-        match print(&machine, words, labels, output) {
+        list(record, |machine| print(machine, words, labels, output))
+    }
+
+    /// Lists what a label sees. Answers as a print does.
+    fn print_for(
+        &self,
+        record: &[u64],
+        words: &[u32],
+        labels: &[u8],
+        label: u8,
+        output: &mut [u8],
+    ) -> u64 {
+        list(record, |machine| print_for(machine, words, labels, Label(label), output))
+    }
+
+    /// Answers the number, and 256 times the line that was refused, the limit at
+    /// 10, or the listing's length.
+    fn view(&self, text: &[u8], viewer: Viewer, memory: Memory, output: &mut [u8]) -> u64 {
+        let (Viewer { label, tick }, Memory { words, labels }) = (viewer, memory);
+        match view(text, label, tick, words, labels, output) {
             Ok(length) => answer(0, length as u64),
-            Err(number) => number.into(),
+            Err(NoView { number, value }) => answer(number.into(), value),
         }
     }
 

@@ -1,15 +1,18 @@
-//! Trials of step, run and print: the library and the interpreter get the same
-//! buffers, and must leave the same answer, record and bytes.
+//! Trials of the calls over a record, step, run and print and their kin: the
+//! library and the interpreter get the same buffers, and must leave the same
+//! answer, record and bytes.
 //!
 //! What answer is due is known from how the buffers were made, and from neither
 //! of the two.
 
 use crate::buffers::Lent;
 use crate::calls::{number, Calls};
+use crate::layout::at;
 use crate::library::Library;
 use crate::other::Other;
 use crate::tally::Tally;
 use interpreter::generator::random::Random;
+use interpreter::Label;
 
 /// Differences are shown up to this number.
 const SHOWN: u64 = 5;
@@ -35,32 +38,87 @@ impl Due {
     }
 }
 
-/// Step, run or print.
+/// A call over a record: step, run or print, a run to a tick, or the listing for
+/// a label.
 #[derive(Clone, Copy, Debug, PartialEq, Eq)]
 pub enum Call {
     Step,
     Run,
+    RunTo(u64),
     Print,
+    PrintFor(Label),
 }
 
-pub const CALLS: [Call; 3] = [Call::Step, Call::Run, Call::Print];
+/// The names of the calls, in the order in which `one_of_each` has them.
+pub const NAMES: [&str; 5] = ["step", "run", "run_to", "print", "print_for"];
 
 impl Call {
     pub fn name(self) -> &'static str {
         match self {
-            Call::Step => "step",
-            Call::Run => "run",
-            Call::Print => "print",
+            Call::Step => NAMES[0],
+            Call::Run => NAMES[1],
+            Call::RunTo(_) => NAMES[2],
+            Call::Print => NAMES[3],
+            Call::PrintFor(_) => NAMES[4],
         }
     }
 
-    fn make(self, calls: &dyn Calls, lent: &mut Lent) -> u64 {
+    /// Whether it has an output.
+    pub fn lists(self) -> bool {
+        matches!(self, Call::Print | Call::PrintFor(_))
+    }
+
+    pub fn make(self, calls: &dyn Calls, lent: &mut Lent) -> u64 {
         match self {
             Call::Step => lent.step(calls),
             Call::Run => lent.run(calls),
+            Call::RunTo(tick) => lent.run_to(calls, tick),
             Call::Print => lent.print(calls),
+            Call::PrintFor(viewer) => lent.print_for(calls, viewer),
         }
     }
+
+    /// The call that comes after it: the same, but for a run to a later tick.
+    pub fn following(self) -> Call {
+        match self {
+            Call::RunTo(tick) => Call::RunTo(tick.saturating_add(2)),
+            call => call,
+        }
+    }
+}
+
+/// Every call once, with a tick and a label that are of interest to the record.
+/// Its words may be none.
+pub fn one_of_each(random: &mut Random, record: &[u64]) -> [Call; 5] {
+    let to = Call::RunTo(tick_near(random, record));
+    [Call::Step, Call::Run, to, Call::Print, Call::PrintFor(viewer_near(random, record))]
+}
+
+/// A tick at or around the record's clock or its limit, or far away.
+fn tick_near(random: &mut Random, record: &[u64]) -> u64 {
+    let word = |place: usize| record.get(place).copied().unwrap_or(0);
+    let (clock, limit) = (word(at::CLOCK), word(at::LIMIT));
+    match random.below(10) {
+        0 => clock.saturating_sub(1),
+        1 => clock,
+        2 => limit.saturating_sub(1),
+        3 => limit,
+        4 => limit.saturating_add(1),
+        5 => random.pick(&[0, 1 << 32, u64::MAX]),
+        _ => clock.saturating_add(random.between(1, 12).into()),
+    }
+}
+
+/// The highest label, that of the record's pc or of a register, or any.
+fn viewer_near(random: &mut Random, record: &[u64]) -> Label {
+    let any = random.bits();
+    let place = match random.below(4) {
+        0 => return Label::HIGHEST,
+        1 => at::PC_LABEL,
+        2 => at::label(random.index(16)),
+        _ => return Label(any as u8),
+    };
+    record.get(place).map_or(Label::LOWEST, |&label| Label(label as u8))
 }
 
 /// How much of words or labels is lent.
@@ -158,11 +216,23 @@ impl Trials {
         before: &Lent,
         due: Due,
     ) -> Lent {
+        let left = |answer: u64, after: &Lent| number(answer) == 0 || after == before;
+        self.compare_leaving(name, make, before, due, left)
+    }
+
+    /// The same for a call of which something is known that it leaves.
+    pub fn compare_leaving(
+        &mut self,
+        name: &str,
+        make: impl Fn(&dyn Calls, &mut Lent) -> u64,
+        before: &Lent,
+        due: Due,
+        left: impl Fn(u64, &Lent) -> bool,
+    ) -> Lent {
         let (mut ours, mut theirs) = (before.clone(), before.clone());
         let answers = (make(&Library, &mut ours), make(&Other, &mut theirs));
         let is_due = due.is_met(answers.0) && due.is_met(answers.1);
-        let left = number(answers.0) == 0 || ours == *before;
-        if answers.0 == answers.1 && ours == theirs && is_due && left {
+        if answers.0 == answers.1 && ours == theirs && is_due && left(answers.0, &ours) {
             self.passed += 1;
         } else {
             self.failed += 1;

@@ -1,7 +1,7 @@
 //! The layout that the comparisons read and write is the one that
 //! `include/jennydusk.h` tells its users.
 
-use beside::calls::{NO_RECORD, SHORT_BUFFER};
+use beside::calls::{NO_RECORD, SHORT_BUFFER, TICK_LATE};
 use beside::certificate;
 use beside::layout::{at, SPAN};
 use interpreter::certificate::cause;
@@ -64,7 +64,7 @@ fn the_five_words_of_a_call_and_its_kinds() {
 #[test]
 fn the_words_of_a_certificate_and_its_causes() {
     let places = [certificate::at::CAUSE, certificate::at::TICK, certificate::at::PLACE];
-    assert_eq!(["CAUSE", "TICK", "PLACE"].map(number), places);
+    assert_eq!(["CAUSE", "BREAK_TICK", "PLACE"].map(number), places);
     assert_eq!(number("CERTIFICATE_SPAN"), certificate::SPAN);
     let names = ["NO_BREAK", "RELEASE", "AT_LARGE", "TIMED_FROM_OUTSIDE"];
     let causes = [cause::NO_BREAK, cause::RELEASE, cause::AT_LARGE, cause::TIMED_FROM_OUTSIDE];
@@ -80,7 +80,8 @@ fn the_papers_numbers() {
     assert_eq!(refusals, [1, 2, 3, 4, 5]);
     assert_eq!(["DONE", "SHORT_MEMORY", "NO_RECORD", "SHORT_OUTPUT"].map(number), [0, 6, 7, 8]);
     assert_eq!(number("NO_RECORD") as u64, NO_RECORD);
-    assert_eq!(number("ZERO_REGISTER"), 9);
+    assert_eq!(["ZERO_REGISTER", "TICK"].map(number), [9, 10]);
+    assert_eq!(number("TICK") as u64, TICK_LATE);
 }
 
 /// The paper's table has no such refusal, and so no such number.

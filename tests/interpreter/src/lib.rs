@@ -3,8 +3,9 @@
 //! The modules follow the chapters of that paper. Every function quotes the
 //! sentence that it implements, so that the two can be read side by side.
 //! Names are those of the field; the paper's own words stand in the comments.
-//! What is quoted of register 0 stands in the owner's later request: "It now
-//! always reads 0 with the lowest label".
+//! What is quoted of register 0 stands in a later request of the owner's: "It
+//! now always reads 0 with the lowest label". So does what is quoted of a view:
+//! "run to that tick and list what the label sees".
 
 #![forbid(unsafe_code)]
 
@@ -20,14 +21,16 @@ pub mod machine;
 mod ops;
 pub mod print;
 pub mod step;
+pub mod view;
 
 pub use certificate::Certificate;
-pub use fire::fire;
+pub use fire::{fire, fire_for};
 pub use label::{Label, Pair};
 pub use load::{load, Refusal};
 pub use machine::{is_fit, Call, Gate, Machine, Register, Return};
 pub use print::print;
 pub use step::Event;
+pub use view::{print_for, view, NoView};
 
 /// "lent words or labels shorter than the size | 6"
 pub const SHORT_MEMORY: u8 = 6;
@@ -37,3 +40,6 @@ pub const NOT_FIT: u8 = 7;
 
 /// "output too short | 8"
 pub const SHORT_OUTPUT: u8 = 8;
+
+/// "10, tick above the limit"
+pub const TICK_ABOVE_LIMIT: u8 = 10;

@@ -112,7 +112,7 @@ fn number_count(kind: Kind) -> usize {
 }
 
 /// "one to ten digits without leading zeros". Ten digits fit 64 bits.
-fn read_number(field: &[u8]) -> Option<u64> {
+pub(crate) fn read_number(field: &[u8]) -> Option<u64> {
     let leading_zero = field.len() > 1 && field[0] == b'0';
     if field.is_empty() || field.len() > 10 || leading_zero {
         return None;

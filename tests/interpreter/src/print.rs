@@ -4,25 +4,23 @@
 //! first byte of the output is written.
 
 use crate::label::Label;
-use crate::machine::{is_fit, Call, Machine, Return};
-use crate::{NOT_FIT, SHORT_MEMORY, SHORT_OUTPUT};
+use crate::machine::{Call, Machine, Return};
+use crate::SHORT_OUTPUT;
 
-/// "Printing gives back the listing's length." The refusals come "7, 6, 8"; "8
-/// is given when the output is shorter than the listing; output beyond the
-/// listing stays."
+/// "Printing gives back the listing's length." The refusals come "7, 6, 8".
 pub fn print(
     machine: &Machine,
     words: &[u32],
     labels: &[u8],
     output: &mut [u8],
 ) -> Result<usize, u8> {
-    if !is_fit(machine) {
-        return Err(NOT_FIT);
-    }
-    if machine.memory_is_short(words, labels) {
-        return Err(SHORT_MEMORY);
-    }
-    let listing = listing(machine, words, labels);
+    machine.try_call(words, labels)?;
+    write(&listing(machine, words, labels), output)
+}
+
+/// "8 is given when the output is shorter than the listing; output beyond the
+/// listing stays."
+pub(crate) fn write(listing: &str, output: &mut [u8]) -> Result<usize, u8> {
     let bytes = listing.as_bytes();
     let target = output.get_mut(..bytes.len()).ok_or(SHORT_OUTPUT)?;
     target.copy_from_slice(bytes);
@@ -43,14 +41,14 @@ fn listing(machine: &Machine, words: &[u32], labels: &[u8]) -> String {
 }
 
 /// "`E,end,why,clock,place,p,t`"
-fn end_line(machine: &Machine) -> String {
+pub(crate) fn end_line(machine: &Machine) -> String {
     let Machine { end, why, clock, pc, pair, .. } = machine;
     format!("E,{end},{why},{clock},{pc},{},{}\n", pair.pc.0, pair.timing.0)
 }
 
 /// "`F,kind,place,p,t,end tick` for open calls, older first (1 gate, end tick
 /// 0; 2 upcall)"
-fn call_line(call: Call) -> String {
+pub(crate) fn call_line(call: Call) -> String {
     let (kind, Return { pc, pair }, end_tick) = match call {
         Call::Empty => return String::new(),
         Call::Gate(back) => (1, back, 0),
@@ -69,7 +67,7 @@ fn location_lines(letter: char, locations: impl Iterator<Item = (Label, u32)>) -
 }
 
 /// "R and W lines that differ from value 0, label 240"
-fn location_line(letter: char, number: usize, label: Label, value: u32) -> String {
+pub(crate) fn location_line(letter: char, number: usize, label: Label, value: u32) -> String {
     if value == 0 && label == Label::LOWEST {
         return String::new();
     }

@@ -55,7 +55,7 @@ const STATUS: usize = 15;
 
 impl Machine {
     /// "Elsewhere 7, 6, 8": the record is tried first, then what is lent.
-    fn try_call(&self, words: &[u32], labels: &[u8]) -> Result<(), u8> {
+    pub(crate) fn try_call(&self, words: &[u32], labels: &[u8]) -> Result<(), u8> {
         if !is_fit(self) {
             return Err(NOT_FIT);
         }

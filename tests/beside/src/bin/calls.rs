@@ -8,19 +8,18 @@
 use beside::bases::Base;
 use beside::breaks::breaks;
 use beside::buffers::Lent;
-use beside::calls::{count, number, Calls, NO_RECORD, SHORT_BUFFER};
+use beside::calls::{count, number, MEMORY_SHORT, NO_RECORD, OUTPUT_SHORT, SHORT_BUFFER};
 use beside::edges::edges;
-use beside::layout::words_of;
+use beside::layout::{at, words_of};
 use beside::library::Library;
 use beside::loads::{try_cabinet, try_load, LOAD};
 use beside::no_records::{no_records, SHORT_BUFFERS};
 use beside::other::Other;
 use beside::random_records::change;
 use beside::tally::Tally;
-use beside::trials::{Call, Due, Trials, CALLS, LENDINGS};
+use beside::trials::{one_of_each, Call, Due, Trials, LENDINGS, NAMES};
 use beside::verdict::close;
 use interpreter::generator::random::Random;
-use interpreter::{SHORT_MEMORY, SHORT_OUTPUT};
 use std::env;
 use std::process::ExitCode;
 
@@ -29,6 +28,15 @@ const OUTPUTS: [&str; 4] = ["just the listing", "short by one", "none", "longer"
 
 /// So many times each record has words changed at random.
 const RANDOM: u32 = 40;
+
+/// The calls that have an output.
+const LISTING: [&str; 2] = ["print", "print_for"];
+
+/// The length that a listing is taken to have where there is none.
+const SOME_LENGTH: u64 = 18;
+
+/// How far a run to a tick came.
+const CAME: [&str; 3] = ["nowhere", "some steps", "to the end"];
 
 /// No refusal is due for the record itself.
 const FIT: u64 = 0;
@@ -61,16 +69,18 @@ fn expected() -> Vec<String> {
     let ways = breaks().map(|way| way.name).chain(no_records().map(|way| way.name));
     let ways = ways.chain(SHORT_BUFFERS.iter().map(|way| way.name));
     let records: Vec<&str> = ways.chain(edges().map(|edge| edge.name)).collect();
-    for call in CALLS.map(Call::name) {
+    for call in NAMES {
         names.extend(records.iter().map(|name| format!("{call}, {name}")));
         names.extend(LENDINGS.iter().map(|lending| format!("{call}, {}", lending.name)));
         names.extend(["7", "255"].map(|number| format!("{call}, {number} before 6")));
     }
-    let random =
-        ["0", "6", "7"].map(|answer| format!("print, random words, step answers {answer}"));
-    names.extend(random);
-    names.extend(OUTPUTS.map(|name| format!("print, output {name}")));
-    names.extend(["6", "7", "255"].map(|number| format!("print, {number} before 8")));
+    for call in LISTING {
+        let random = |answer| format!("{call}, random words, step answers {answer}");
+        names.extend(["0", "6", "7"].map(random));
+        names.extend(OUTPUTS.map(|name| format!("{call}, output {name}")));
+        names.extend(["6", "7", "255"].map(|number| format!("{call}, {number} before 8")));
+    }
+    names.extend(CAME.map(|far| format!("run_to, {far}")));
     names
 }
 
@@ -133,7 +143,7 @@ fn try_short_buffer(trials: &mut Trials, random: &mut Random, base: &Base) {
 /// what its size has become; a run of it can be long, and it is seldom called.
 fn try_random_record(trials: &mut Trials, random: &mut Random, base: &Base) {
     let record = change(random, &words_of(&base.machine));
-    let call = CALLS[random.weighted(&[10, 3, 10])];
+    let call = one_of_each(random, &record)[random.weighted(&[10, 3, 4, 10, 10])];
     let mut lent = Lent::of(random, &record, &base.words, &base.labels);
     lent.output.lend(random.pick(&[0, 100, 65_536]), 0);
     let answer = number(lent.clone().step(&Library));
@@ -141,8 +151,8 @@ fn try_random_record(trials: &mut Trials, random: &mut Random, base: &Base) {
     trials.try_call("random words", call, &lent, Due::Open);
 }
 
-/// The three calls over a record's words, in memory of some length. The refusal
-/// that is due for the record comes before those for memory and output.
+/// The calls over a record's words, in memory of some length. The refusal that is
+/// due for the record comes before those for memory and output.
 fn try_record(
     trials: &mut Trials,
     random: &mut Random,
@@ -151,14 +161,14 @@ fn try_record(
     record: &[u64],
     refusal: u64,
 ) {
-    for call in CALLS {
+    for call in one_of_each(random, record) {
         let mut lent = Lent::of(random, record, &base.words, &base.labels);
         let lending = if random.chance(50) { LENDINGS[0] } else { random.pick(&LENDINGS) };
         lending.apply(random, &mut lent, base.words.len());
-        let short_output = call == Call::Print && lend_output(trials, random, &mut lent);
+        let short_output = call.lists() && lend_output(trials, random, &mut lent, call);
         let due = match (refusal, lending.is_short() && !base.words.is_empty()) {
-            (FIT, true) => SHORT_MEMORY.into(),
-            (FIT, false) => u64::from(SHORT_OUTPUT) * u64::from(short_output),
+            (FIT, true) => MEMORY_SHORT,
+            (FIT, false) => OUTPUT_SHORT * u64::from(short_output),
             (refusal, _) => refusal,
         };
         let (tally, call_name) = (&mut trials.tally, call.name());
@@ -166,32 +176,49 @@ fn try_record(
         if refusal != FIT && lending.is_short() {
             tally.count(&format!("{call_name}, {due} before 6"));
         }
-        if due != u64::from(SHORT_OUTPUT) && short_output {
-            tally.count(&format!("print, {due} before 8"));
+        if due != OUTPUT_SHORT && short_output {
+            tally.count(&format!("{call_name}, {due} before 8"));
         }
         let after = trials.try_call(name, call, &lent, Due::Number(due));
         if due == 0 {
+            count_far(trials, call, &lent, &after);
             go_on(trials, call, after);
         }
     }
 }
 
+/// Counts how far a run to a tick came.
+fn count_far(trials: &mut Trials, call: Call, before: &Lent, after: &Lent) {
+    let Call::RunTo(_) = call else {
+        return;
+    };
+    let far = match (before.record == after.record, after.record.get()[at::END]) {
+        (true, _) => CAME[0],
+        (false, 0) => CAME[1],
+        _ => CAME[2],
+    };
+    trials.tally.count(&format!("run_to, {far}"));
+}
+
 /// Lends output of some length; whether it is too short. Where the listing is
 /// none, for the record is refused, its length is that of any.
-fn lend_output(trials: &mut Trials, random: &mut Random, lent: &mut Lent) -> bool {
-    let mut listing = vec![0; 65_536];
-    let printed = Other.print(lent.record.get(), lent.words.get(), lent.labels.get(), &mut listing);
-    let length = count(printed).max(18) as usize;
+fn lend_output(trials: &mut Trials, random: &mut Random, lent: &mut Lent, call: Call) -> bool {
+    let mut listed = lent.clone();
+    listed.output.lend(65_536, 0);
+    let answer = call.make(&Other, &mut listed);
+    let length = if number(answer) == 0 { count(answer) } else { SOME_LENGTH } as usize;
     let choice = random.index(OUTPUTS.len());
     let lend = [length, length - 1, 0, length + random.index(50) + 1][choice];
     lent.output.lend(lend, random.bits() as u8);
-    trials.tally.count(&format!("print, output {}", OUTPUTS[choice]));
+    trials.tally.count(&format!("{}, output {}", call.name(), OUTPUTS[choice]));
     lend < length
 }
 
-/// The same call again and again, from what the library has left.
-fn go_on(trials: &mut Trials, call: Call, mut lent: Lent) {
+/// The same call again and again, a run to later and later ticks, from what the
+/// library has left.
+fn go_on(trials: &mut Trials, mut call: Call, mut lent: Lent) {
     for _ in 0..FURTHER {
+        call = call.following();
         lent = trials.try_call("what a call left", call, &lent, Due::Number(0));
     }
 }

@@ -13,6 +13,7 @@ use beside::pairs::make::Pair;
 use beside::pairs::provisos::{both, bounds, first_broken, Bounds, NAMES};
 use beside::pairs::seen::are_alike;
 use beside::pairs::trace::{trace, Trace};
+use beside::pairs::views::{self, listed_alike, listed_apart, room};
 use beside::tally::Tally;
 use beside::verdict::close;
 use interpreter::generator::random::Random;
@@ -31,10 +32,12 @@ const CAME: [(Came, &str); 3] = [
 ];
 
 /// What must come up besides.
-const EXPECTED: [&str; 9] = [
+const EXPECTED: [&str; 11] = [
     "pairs",
     "ticks compared",
     "calls of run",
+    "calls of run to a tick",
+    "calls of run to a tick, with a step left out",
     "calls refused",
     "pairs through a hidden upcall over a gate call and back",
     "pairs hidden at the start",
@@ -60,9 +63,11 @@ fn main() -> ExitCode {
         _ => &Library,
     };
     let mut expected = EXPECTED.map(str::to_string).to_vec();
+    expected.extend(views::EXPECTED.map(str::to_string));
     expected.extend(CAME.map(|(_, name)| name.to_string()));
     expected.extend(NAMES.map(cut_off));
     expected.extend(NAMES.map(differs));
+    expected.extend(NAMES.map(is_listed_apart));
     let random = Random::new(number(0).unwrap_or(1));
     let tally = Tally::expecting(expected);
     let mut trial = Trial { calls, random, tally, passed: 0, failed: 0 };
@@ -78,6 +83,10 @@ fn cut_off(proviso: &str) -> String {
 
 fn differs(proviso: &str) -> String {
     format!("pairs that differ once nothing is said of {proviso}")
+}
+
+fn is_listed_apart(proviso: &str) -> String {
+    format!("pairs listed apart once nothing is said of {proviso}")
 }
 
 impl Trial<'_> {
@@ -96,26 +105,28 @@ impl Trial<'_> {
         }
     }
 
-    /// The claim for one pair.
+    /// The claim for one pair, and what is listed of it.
     fn check(&mut self, pair: &Pair) -> Result<(), String> {
-        let Pair { level, one, other } = pair;
-        let size = one.words.len();
+        let level = pair.level;
+        let size = pair.one.words.len();
         let (calls, random, tally) = (self.calls, &mut self.random, &mut self.tally);
-        let one = trace(calls, random, tally, &one.text(), size)?;
-        let other = trace(calls, random, tally, &other.text(), size)?;
-        if !are_alike(*level, &one.states[0], &other.states[0]) {
+        let one = trace(calls, random, tally, &pair.one.text(), size)?;
+        let other = trace(calls, random, tally, &pair.other.text(), size)?;
+        if !are_alike(level, &one.states[0], &other.states[0]) {
             return Err("they are not loaded alike".to_string());
         }
-        let bounds = both(bounds(*level, &one), bounds(*level, &other));
+        let bounds = both(bounds(level, &one), bounds(level, &other));
         let reached = unreached(&one, &other);
         let bound = first_broken(bounds, None).unwrap_or(reached).min(reached);
-        let compared = compare(*level, &one, &other, bound);
-        self.tally.add("ticks compared", compared.ticks);
-        self.count(*level, &one, &other, bound);
-        self.count_provisos(*level, &one, &other, bounds);
-        match compared.differs {
-            Some((tick, what)) => Err(format!("not alike at tick {tick}, {what}")),
-            None => Ok(()),
+        let compared = compare(level, &one, &other, bound);
+        tally.add("ticks compared", compared.ticks);
+        let apart = listed_apart(calls, random, tally, pair, bound);
+        self.count(level, &one, &other, bound);
+        self.count_provisos(pair, &one, &other, bounds);
+        match (compared.differs, apart) {
+            (Some((tick, what)), _) => Err(format!("not alike at tick {tick}, {what}")),
+            (_, Some(tick)) => Err(format!("not listed alike at tick {tick}")),
+            (None, None) => Ok(()),
         }
     }
 
@@ -138,15 +149,22 @@ impl Trial<'_> {
     }
 
     /// Counts which provisos cut the comparison off, and whether the pair
-    /// differs where one of them is ignored: the check can fail.
-    fn count_provisos(&mut self, level: Label, one: &Trace, other: &Trace, bounds: Bounds) {
+    /// differs, and is listed apart, where one of them is ignored: the check can
+    /// fail.
+    fn count_provisos(&mut self, pair: &Pair, one: &Trace, other: &Trace, bounds: Bounds) {
+        let (calls, random) = (self.calls, &mut self.random);
         let reached = unreached(one, other);
         for (proviso, name) in NAMES.iter().enumerate() {
-            let is_cut = bounds[proviso].is_some_and(|tick| tick < reached);
-            self.tally.count_if(is_cut, &cut_off(name));
+            if bounds[proviso].is_none_or(|tick| tick >= reached) {
+                continue;
+            }
+            self.tally.count(&cut_off(name));
             let bound = first_broken(bounds, Some(proviso)).unwrap_or(reached).min(reached);
-            let parted = is_cut && compare(level, one, other, bound).differs.is_some();
-            self.tally.count_if(parted, &differs(name));
+            if let Some((tick, _)) = compare(pair.level, one, other, bound).differs {
+                self.tally.count(&differs(name));
+                let listed = listed_alike(calls, random, pair, tick, room(pair));
+                self.tally.count_if(listed.is_none(), &is_listed_apart(name));
+            }
         }
     }
 

@@ -12,12 +12,16 @@ pub struct Compared {
     pub differs: Option<(u64, String)>,
 }
 
+/// The number of steps "finishing at or before k". The clock never goes back, so
+/// they are those of a front part.
+pub fn done_at(trace: &Trace, tick: u64) -> usize {
+    trace.states[1..].partition_point(|state| state.machine.clock <= tick)
+}
+
 /// "The state at tick k is that after the last step finishing at or before k, or
-/// the loaded one if there is none." The clock never goes back, so these are the
-/// states of a front part.
+/// the loaded one if there is none."
 pub fn state_at(trace: &Trace, tick: u64) -> &State {
-    let done = trace.states[1..].partition_point(|state| state.machine.clock <= tick);
-    &trace.states[done]
+    &trace.states[done_at(trace, tick)]
 }
 
 /// The first tick that not both have reached; behind the last clock of both

@@ -2,8 +2,8 @@
 //!
 //! Two machines are loaded alike at or below a label and differ in what that
 //! label doesn't see. Each gets its own calls in memory of its own length. At
-//! every tick that both have reached they must be alike, as long as the three
-//! provisos hold in both.
+//! every tick that both have reached they must be alike, and listed alike, as
+//! long as the three provisos hold in both.
 
 pub mod certified;
 pub mod check;
@@ -12,3 +12,4 @@ pub mod make;
 pub mod provisos;
 pub mod seen;
 pub mod trace;
+pub mod views;

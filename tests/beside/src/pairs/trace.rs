@@ -7,6 +7,7 @@ use crate::layout::{read, SPAN};
 use crate::tally::Tally;
 use interpreter::generator::random::Random;
 use interpreter::machine::end;
+use interpreter::Machine;
 use std::ops::Range;
 
 /// The loaded state, then "one state for each step done".
@@ -38,7 +39,8 @@ struct Sequence<'a> {
 /// "A sequence for the third demand starts with the record and memory of an
 /// accepted load. Its calls are step and run. Each takes the record that the
 /// last one returned and the whole memory as it then stands, or too short a part
-/// of it." What goes wrong on the way is told.
+/// of it." A run to a tick is a call like these. What goes wrong on the way is
+/// told.
 pub fn trace(
     calls: &dyn Calls,
     random: &mut Random,
@@ -52,6 +54,7 @@ pub fn trace(
         match random.below(100) {
             0..=15 => sequence.refused(random, tally)?,
             16 => sequence.run(tally)?,
+            17..=19 => sequence.run_to(random, tally)?,
             _ => sequence.step()?,
         }
     }
@@ -118,6 +121,42 @@ impl<'a> Sequence<'a> {
         Ok(())
     }
 
+    /// A run to a tick too counts as the steps that it does: all that finish at or
+    /// before it. A step is tried, and taken back where it finishes later.
+    fn run_to(&mut self, random: &mut Random, tally: &mut Tally) -> Result<(), String> {
+        let tick = self.choose_tick(random);
+        let mut whole = self.lent.clone();
+        while self.trace.last().machine.end == end::RUNNING {
+            let before = self.lent.clone();
+            self.step()?;
+            if self.trace.last().machine.clock > tick {
+                self.lent = before;
+                self.trace.states.pop();
+                tally.count("calls of run to a tick, with a step left out");
+                break;
+            }
+        }
+        let answer = whole.run_to(self.calls, tick);
+        if answer != 0 || whole != self.lent {
+            let what = "and leaves another state than its steps";
+            return Err(format!("run to tick {tick} answers {answer} {what}"));
+        }
+        tally.count("calls of run to a tick");
+        Ok(())
+    }
+
+    /// A tick around the clock, mostly, or at the limit, or beyond.
+    fn choose_tick(&self, random: &mut Random) -> u64 {
+        let Machine { clock, limit, .. } = self.trace.last().machine;
+        match random.below(20) {
+            0 => limit,
+            1 => limit + 1,
+            2 => u64::MAX,
+            3 => clock.saturating_sub(1),
+            _ => clock + u64::from(random.below(16)),
+        }
+    }
+
     /// "a refused call as none": too short a part of the memory, from anywhere
     /// in it.
     fn refused(&mut self, random: &mut Random, tally: &mut Tally) -> Result<(), String> {
@@ -130,7 +169,11 @@ impl<'a> Sequence<'a> {
             lent.labels.lend_part(short_part(random, self.size));
         }
         let before = lent.clone();
-        let answer = if random.chance(50) { lent.step(self.calls) } else { lent.run(self.calls) };
+        let answer = match random.below(3) {
+            0 => lent.step(self.calls),
+            1 => lent.run(self.calls),
+            _ => lent.run_to(self.calls, self.choose_tick(random)),
+        };
         if answer != 6 || lent != before {
             return Err(format!("a call in short memory answers {answer}, or changes something"));
         }
