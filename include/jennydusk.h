@@ -1,5 +1,5 @@
-/* The labelled kiln machine: load, step, run and print over buffers that the caller lends, certificates, and the label
- * rules.
+/* The labelled kiln machine: load, step, run and print over buffers that the caller lends, listings for one viewer,
+ * certificates, and the label rules.
  *
  * A call gets each buffer as a pointer and a length in elements. A pointer is aligned and not null, at length 0 too;
  * a buffer that a call may change overlaps no other one. Nothing is kept between calls. No call reads or writes behind
@@ -11,7 +11,7 @@
 #include <stddef.h>
 #include <stdint.h>
 
-#define JENNYDUSK_VERSION "2.0.0"
+#define JENNYDUSK_VERSION "3.0.0"
 
 #ifdef __cplusplus
 extern "C" {
@@ -60,9 +60,9 @@ extern "C" {
 /* ---- the certificate: a buffer of at least so many words. What lies behind them is left. */
 #define JENNYDUSK_CERTIFICATE_SPAN 3
 
-#define JENNYDUSK_CAUSE 0 /* of the first break, or JENNYDUSK_NO_BREAK */
-#define JENNYDUSK_TICK 1  /* of the first break; 0 where there is none */
-#define JENNYDUSK_PLACE 2 /* its pc; 0 where there is none, or the pc is hidden */
+#define JENNYDUSK_CAUSE 0      /* of the first break, or JENNYDUSK_NO_BREAK */
+#define JENNYDUSK_BREAK_TICK 1 /* its tick; 0 where there is none */
+#define JENNYDUSK_PLACE 2      /* its pc; 0 where there is none, or the pc is hidden */
 
 /* The causes of a break at a label: a step attempts to release to within it what is outside; a state is outside it, in no
  * upcall, while a gate leads within; a state has its pc label within it and its timing label outside. */
@@ -71,7 +71,7 @@ extern "C" {
 #define JENNYDUSK_AT_LARGE 2
 #define JENNYDUSK_TIMED_FROM_OUTSIDE 3
 
-/* ---- answers: a number, with a line or a length above it */
+/* ---- answers: a number, with a line, a length or the limit above it */
 #define JENNYDUSK_NUMBER(answer) ((unsigned)((answer) % 256))
 #define JENNYDUSK_COUNT(answer) ((size_t)((answer) / 256))
 
@@ -87,12 +87,14 @@ extern "C" {
                                    * none */
 #define JENNYDUSK_SHORT_OUTPUT 8  /* the output is shorter than the listing */
 #define JENNYDUSK_ZERO_REGISTER 9 /* an R line for register 0, whatever it says */
+#define JENNYDUSK_TICK 10         /* the tick of a view is above the limit, which stands beside the number */
 #define JENNYDUSK_SHORT_BUFFER 255 /* the record's buffer is shorter than JENNYDUSK_SPAN, or the certificate's than
                                     * JENNYDUSK_CERTIFICATE_SPAN */
 
-/* ---- the calls. A refused call leaves the record, certificate, words, labels and output as they were. Each of the five
- * answers JENNYDUSK_SHORT_BUFFER where the buffer of the record or the certificate is too short, before it reads
- * anything. */
+/* ---- the calls. A refused call leaves the record, certificate, words, labels and output as they were; but
+ * jennydusk_view, which loads and runs first, leaves only the output when it answers JENNYDUSK_TICK or
+ * JENNYDUSK_SHORT_OUTPUT. A call that takes a buffer for a record or a certificate answers JENNYDUSK_SHORT_BUFFER where
+ * that is too short, before it reads anything. */
 
 /* Loads a text. The record goes to its buffer, the memory to words and labels below the size. Answers a number, 0 to 6,
  * 9 or 255, and 256 times the line that was refused. A load sets the words of the gates that no line names to 0. */
@@ -103,8 +105,8 @@ uint64_t jennydusk_load(const uint8_t *text, size_t text_length, uint32_t *words
  *
  * What is proved of labels is about ticks, not about calls. How many steps a stretch of ticks holds may be a secret:
  * whoever counts or times the calls of step, or looks at the memory after each, can learn it. A program that shows a run
- * to others shows the state at tick k when k has come and not before, at a pace that ticks alone decide, and of it what
- * their label sees. examples/c/tick.c does so. */
+ * to others goes by jennydusk_run_to instead, one call for each tick at a pace that ticks alone decide, and shows what
+ * jennydusk_print_for lists for their label. examples/c/tick.c does so. */
 uint64_t jennydusk_step(uint64_t *record, size_t record_length, uint32_t *words, size_t words_length, uint8_t *labels,
                         size_t labels_length);
 
@@ -112,18 +114,60 @@ uint64_t jennydusk_step(uint64_t *record, size_t record_length, uint32_t *words,
 uint64_t jennydusk_run(uint64_t *record, size_t record_length, uint32_t *words, size_t words_length, uint8_t *labels,
                        size_t labels_length);
 
-/* Writes the listing at the start of the output. Answers 0 and 256 times the listing's length, or 6, 7, 8 or 255. */
+/* Runs to a tick: does every step that finishes at or before the tick, and none that finishes later. A step finishes at
+ * the clock that it leaves; so a stall at the tick is done, and an op that would pass the tick is not begun. This leaves
+ * the state at that tick, whose clock may be below it. A tick below the clock does nothing, one above the limit runs to
+ * the end, and the next call goes on from here. Answers 0, 6, 7 or 255. */
+uint64_t jennydusk_run_to(uint64_t *record, size_t record_length, uint32_t *words, size_t words_length, uint8_t *labels,
+                          size_t labels_length, uint64_t tick);
+
+/* Writes the listing at the start of the output. Answers 0 and 256 times the listing's length, or 6, 7, 8 or 255. It is
+ * that of jennydusk_print_for for JENNYDUSK_HIGHEST, which sees all. */
 uint64_t jennydusk_print(const uint64_t *record, size_t record_length, const uint32_t *words, size_t words_length,
                          const uint8_t *labels, size_t labels_length, uint8_t *output, size_t output_length);
+
+/* Writes the listing for a viewer's label: what that label sees, and nothing else. The E and F lines are there if the pc
+ * label flows to the viewer's; if not, one line H, of that letter alone, stands in their place. Of registers and words
+ * those are listed whose labels flow to the viewer's and that differ from value 0, label 240. Answers as
+ * jennydusk_print.
+ *
+ * States that are alike at the label are listed alike. Whether a run brings something hidden to where the label sees it
+ * is another question; jennydusk_view tells when it doesn't. */
+uint64_t jennydusk_print_for(const uint64_t *record, size_t record_length, const uint32_t *words, size_t words_length,
+                             const uint8_t *labels, size_t labels_length, uint8_t label, uint8_t *output,
+                             size_t output_length);
+
+/* Lists for a viewer's label the state of a text at a tick: loads it, runs it to the tick as jennydusk_run_to does, and
+ * writes the listing as jennydusk_print_for does. Answers the first that holds of these:
+ *
+ *   a number of the load, 1 to 6 or 9, and 256 times the line that was refused; memory and output are left
+ *   JENNYDUSK_TICK and 256 times the limit: the tick is above the limit; memory is as loaded, the output is left
+ *   JENNYDUSK_SHORT_OUTPUT and no count; memory is that of the tick, the output is left
+ *   0 and 256 times the listing's length; memory is that of the tick
+ *
+ * At the limit every run has ended, so that a view at that tick is one of the end.
+ *
+ * Two texts of equal size, gates, error pc and limit that are alike at the label get the same answer and, in outputs of
+ * equal length, the same bytes, at every tick up to which both runs meet three provisos. This is proved. The provisos:
+ * no step lowers a label from outside the viewer's to within; none takes a gate call from outside to within; no state
+ * has its pc label within and its timing label outside. They hold below the break that jennydusk_certify finds in one of
+ * the two, and at every tick where it finds none. The memory is left with all of the state, secrets too: it isn't for
+ * the viewer.
+ *
+ * That is about ticks and not about real time: how long a call takes may depend on a secret. Whoever shows views while a
+ * run goes on makes these calls at a pace that ticks alone decide. */
+uint64_t jennydusk_view(const uint8_t *text, size_t text_length, uint8_t label, uint64_t tick, uint32_t *words,
+                        size_t words_length, uint8_t *labels, size_t labels_length, uint8_t *output,
+                        size_t output_length);
 
 /* Certifies a text at one label: loads it, and runs it to its end. The certificate goes to its buffer; words and labels
  * hold what the run leaves. Answers a number, 0 to 6, 9 or 255, and 256 times the line that was refused.
  *
  * With JENNYDUSK_NO_BREAK, nothing that is hidden from the label shows at it at any tick; with another cause, at none
- * below JENNYDUSK_TICK. That holds for this text and for every other one of equal size, gates, error pc and limit that is
- * alike at the label; those get the same certificate, so the secrets of this one may be any, or zeros. It is about ticks
- * and not about real time, and about this label alone: another one wants a call of its own. From a break on nothing is
- * promised, and still nothing may show. */
+ * below JENNYDUSK_BREAK_TICK. That holds for this text and for every other one of equal size, gates, error pc and limit
+ * that is alike at the label; those get the same certificate, so the secrets of this one may be any, or zeros. It is
+ * about ticks and not about real time, and about this label alone: another one wants a call of its own. From a break on
+ * nothing is promised, and still nothing may show. */
 uint64_t jennydusk_certify(uint8_t label, const uint8_t *text, size_t text_length, uint32_t *words, size_t words_length,
                            uint8_t *labels, size_t labels_length, uint64_t *certificate, size_t certificate_length);
 

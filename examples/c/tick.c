@@ -2,10 +2,9 @@
  *
  * usage: tick IMAGE LABEL [MICROSECONDS]      MICROSECONDS: the length of a tick, 0 if not given
  *
- * At each tick at which something seen has changed it writes the tick and what is seen, as a listing. What is hidden
- * stands there with value 0 and the highest label, which is seen where nothing is hidden; a hidden control has no line.
- * How many steps a stretch of ticks holds may be a secret, so each tick has one wait, until a time that no step decides,
- * and writes after it. */
+ * Where what is listed for the label has changed, it writes the tick and the listing; a line H stands there while the
+ * control is hidden. How many steps a stretch of ticks holds may be a secret, so each tick has one run, one listing and
+ * one wait, until a time that no step decides, and writes after it. */
 #define _POSIX_C_SOURCE 200809L
 #include "jennydusk.h"
 
@@ -17,7 +16,6 @@
 
 #define WORDS 2048
 #define BYTES 65536 /* room for a text that load refuses as too long, and for every listing */
-#define REGISTERS 16
 #define MICROSECOND 1000L
 #define SECOND 1000000000L
 
@@ -31,37 +29,6 @@ static void need(bool good, const char *what, const char *why) {
     if (good) return;
     fprintf(stderr, "tick: %s: %s\n", what, why);
     exit(2);
-}
-
-static bool seen(uint64_t label, uint8_t viewer) { return jennydusk_flows((uint8_t)label, viewer); }
-
-static void hide_registers(struct state *s, uint8_t viewer) {
-    for (size_t i = 0; i < REGISTERS; i++) {
-        if (seen(s->record[JENNYDUSK_LABEL(i)], viewer)) continue;
-        s->record[JENNYDUSK_VALUE(i)] = 0;
-        s->record[JENNYDUSK_LABEL(i)] = JENNYDUSK_HIGHEST;
-    }
-}
-
-static void hide_words(struct state *s, uint8_t viewer) {
-    for (size_t i = 0; i < WORDS; i++) {
-        if (seen(s->labels[i], viewer)) continue;
-        s->words[i] = 0;
-        s->labels[i] = JENNYDUSK_HIGHEST;
-    }
-}
-
-/* What is seen of a state, written into `text`; the E and F lines are the control's. */
-static const char *view(struct state s, uint8_t viewer, char *text) {
-    hide_registers(&s, viewer);
-    hide_words(&s, viewer);
-    uint64_t answer = jennydusk_print(s.record, JENNYDUSK_SPAN, s.words, WORDS, s.labels, WORDS, (uint8_t *)text,
-                                      BYTES - 1);
-    need(JENNYDUSK_NUMBER(answer) == JENNYDUSK_DONE, "print", "refused");
-    text[JENNYDUSK_COUNT(answer)] = 0;
-    if (seen(s.record[JENNYDUSK_PC_LABEL], viewer)) return text;
-    while (*text == 'E' || *text == 'F') text = strchr(text, '\n') + 1;
-    return text;
 }
 
 static unsigned long number(const char *text, unsigned long most) {
@@ -82,18 +49,22 @@ static void load(struct state *s, const char *name) {
     need(answer == JENNYDUSK_DONE, name, "refused; the program firing says where and why");
 }
 
-static void step(struct state *s) {
-    uint64_t answer = jennydusk_step(s->record, JENNYDUSK_SPAN, s->words, WORDS, s->labels, WORDS);
-    need(answer == JENNYDUSK_DONE, "step", "refused");
+static void run_to(struct state *s, unsigned long tick) {
+    uint64_t answer = jennydusk_run_to(s->record, JENNYDUSK_SPAN, s->words, WORDS, s->labels, WORDS, tick);
+    need(answer == JENNYDUSK_DONE, "run", "refused");
 }
 
-/* Brings `now` to tick k. `next` is one step ahead of it, and has its turn when its clock has come. */
-static void advance(struct state *now, struct state *next, unsigned long k) {
-    while (now->record[JENNYDUSK_END] == JENNYDUSK_RUNNING && next->record[JENNYDUSK_CLOCK] <= k) {
-        *now = *next;
-        step(next);
-    }
+/* Writes what the viewer sees of a state into `text`, as a string. */
+static void list(const struct state *s, uint8_t viewer, char *text) {
+    uint64_t answer = jennydusk_print_for(s->record, JENNYDUSK_SPAN, s->words, WORDS, s->labels, WORDS, viewer,
+                                          (uint8_t *)text, BYTES - 1);
+    need(JENNYDUSK_NUMBER(answer) == JENNYDUSK_DONE, "listing", "refused");
+    text[JENNYDUSK_COUNT(answer)] = 0;
 }
+
+/* Whether a listing shows that the run has ended. An end that isn't seen must not show in the time either: then the
+ * ticks go on to the limit. */
+static bool shows_the_end(const char *text) { return text[0] == 'E' && strncmp(text, "E,0,", 4) != 0; }
 
 /* Waits until one tick after the time of the wait before, however long the steps between them took. */
 static void wait_a_tick(struct timespec *due, long nanoseconds) {
@@ -103,7 +74,7 @@ static void wait_a_tick(struct timespec *due, long nanoseconds) {
 }
 
 int main(int count, char **arguments) {
-    static struct state now, next;
+    static struct state now;
     static char text[BYTES], shown[BYTES];
     struct timespec due;
     bool ended = false;
@@ -111,17 +82,14 @@ int main(int count, char **arguments) {
     uint8_t viewer = (uint8_t)number(arguments[2], 255);
     long tick = count == 4 ? (long)number(arguments[3], SECOND / MICROSECOND) * MICROSECOND : 0;
     load(&now, arguments[1]);
-    next = now;
-    step(&next);
     clock_gettime(CLOCK_MONOTONIC, &due);
     for (unsigned long k = 0; k <= now.record[JENNYDUSK_LIMIT] && !ended; k++) {
-        advance(&now, &next, k);
-        const char *sight = view(now, viewer, text);
+        run_to(&now, k);
+        list(&now, viewer, text);
         wait_a_tick(&due, tick);
-        if (strcmp(sight, shown) != 0) printf("= tick %lu\n%s", k, strcpy(shown, sight));
+        if (strcmp(text, shown) != 0) printf("= tick %lu\n%s", k, strcpy(shown, text));
         need(fflush(stdout) == 0, "standard output", "can't be written");
-        /* An end that isn't seen must not show in the time either: then the ticks go on to the limit. */
-        ended = now.record[JENNYDUSK_END] != JENNYDUSK_RUNNING && seen(now.record[JENNYDUSK_PC_LABEL], viewer);
+        ended = shows_the_end(text);
     }
     return 0;
 }

@@ -7,6 +7,7 @@ use crate::labels;
 use crate::run::run;
 use crate::status::{Failure, Status};
 use crate::trace::trace;
+use crate::view::view;
 
 /// What a command was given.
 #[derive(Debug, Default)]
@@ -19,19 +20,30 @@ pub struct Arguments {
     pub listing: bool,
     /// asm's -D, each as given.
     pub definitions: Vec<String>,
-    /// The label at which one looks: trace's --as, or certify's LABEL.
+    /// The label at which one looks: trace's --as, or LABEL of view and certify.
     pub label: Option<u8>,
+    /// The tick at which view looks.
+    pub tick: Option<u64>,
 }
 
 /// An option, and the value that hangs on it.
 type Given<'a> = (&'static str, Option<&'a str>);
 
-/// A command: its name, the options that it takes, whether a label stands behind
-/// its file, and what it does.
+/// What a command takes behind its file.
+#[derive(PartialEq, Eq)]
+enum Behind {
+    Nothing,
+    Label,
+    /// The tick may be left out.
+    LabelAndTick,
+}
+
+/// A command: its name, the options that it takes, what stands behind its file,
+/// and what it does.
 pub struct Command {
     pub name: &'static str,
     options: &'static [&'static str],
-    takes_label: bool,
+    behind: Behind,
     pub usage: &'static str,
     pub help: &'static str,
     pub act: fn(&Arguments) -> Result<Status, Failure>,
@@ -41,17 +53,19 @@ const OUTPUT: &str = "-o";
 const LISTING: &str = "-l";
 const DEFINITION: &str = "-D";
 const LABEL: &str = "--as";
+/// A number has at most so many digits.
+const DIGITS: usize = 10;
 /// Behind it no argument is an option.
 const NO_MORE_OPTIONS: &str = "--";
 
 pub const HELP: &str = "--help";
 pub const SHORT_HELP: &str = "-h";
 
-pub const COMMANDS: [Command; 5] = [
+pub const COMMANDS: [Command; 6] = [
     Command {
         name: "asm",
         options: &[OUTPUT, LISTING, DEFINITION],
-        takes_label: false,
+        behind: Behind::Nothing,
         usage: "kiln asm FILE [-o IMAGE] [-l] [-D NAME=VALUE]...",
         help: "\
 Makes the image of a source. Errors say FILE:LINE:COLUMN, all of them.
@@ -65,7 +79,7 @@ kiln-source(5) tells the language.
     Command {
         name: "dis",
         options: &[OUTPUT],
-        takes_label: false,
+        behind: Behind::Nothing,
         usage: "kiln dis IMAGE [-o FILE]",
         help: "\
 Writes a source of an image; asm makes the same image of it, to the byte.
@@ -76,7 +90,7 @@ Writes a source of an image; asm makes the same image of it, to the byte.
     Command {
         name: "run",
         options: &[OUTPUT],
-        takes_label: false,
+        behind: Behind::Nothing,
         usage: "kiln run IMAGE [-o LISTING]",
         help: "\
 Runs an image to its end and writes the listing.
@@ -88,7 +102,7 @@ Exit status: 0 halted, 1 clock spent or stalled, 2 refused, 3 input or output fa
     Command {
         name: "trace",
         options: &[LABEL],
-        takes_label: false,
+        behind: Behind::Nothing,
         usage: "kiln trace IMAGE [--as LABEL]",
         help: "\
 Runs an image and tells each step: the tick at which it finishes, its pc, its op
@@ -99,9 +113,23 @@ and what it changes. A ! marks a step without effect.
         act: trace,
     },
     Command {
+        name: "view",
+        options: &[],
+        behind: Behind::LabelAndTick,
+        usage: "kiln view IMAGE LABEL [TICK]",
+        help: "\
+Runs an image to a tick and lists what this label sees then: the control, or a line H
+where it is out of its sight, and the registers and words whose labels flow to it.
+LABEL is a number 0 to 255, or two sets of bits, trust and secrecy: {2|2}
+TICK is at most the image's limit; without it, the limit, by which every run has ended.
+Exit status: 0 listed, 2 refused, 3 input or output failed.
+",
+        act: view,
+    },
+    Command {
         name: "certify",
         options: &[],
-        takes_label: true,
+        behind: Behind::Label,
         usage: "kiln certify IMAGE LABEL",
         help: "\
 Runs an image and tells up to which tick nothing of what is hidden at this label can
@@ -145,13 +173,16 @@ impl Command {
         Ok(arguments)
     }
 
-    /// Takes what is no option: the file, and the label of a command with one.
+    /// Takes what is no option: the file, and what the command takes behind it.
     fn place(&self, operands: &[&String], arguments: &mut Arguments) -> Result<(), String> {
         let mut rest = operands.iter();
         let file = rest.next().ok_or("a file is missing; - is standard input")?;
         arguments.file = file.to_string();
-        if self.takes_label {
+        if self.behind != Behind::Nothing {
             arguments.label = Some(label(rest.next().ok_or("a label is missing")?)?);
+        }
+        if self.behind == Behind::LabelAndTick {
+            arguments.tick = rest.next().map(|text| tick(text)).transpose()?;
         }
         match rest.next() {
             None => Ok(()),
@@ -198,6 +229,16 @@ impl Arguments {
             false => Err(format!("{option} is given twice")),
         }
     }
+}
+
+/// A tick is written as numbers are in an image. Any one that is can be asked for;
+/// whether it is above the limit is the library's to say.
+fn tick(text: &str) -> Result<u64, String> {
+    let is_number = text.bytes().all(|byte| byte.is_ascii_digit())
+        && (1..=DIGITS).contains(&text.len())
+        && (text == "0" || !text.starts_with('0'));
+    let tick = text.parse().ok().filter(|_| is_number);
+    tick.ok_or_else(|| format!("{text} is no tick: one to ten digits without a leading zero"))
 }
 
 fn label(text: &str) -> Result<u8, String> {

@@ -4,6 +4,7 @@
 #![allow(unsafe_code)]
 
 use crate::ops;
+use std::ops::Range;
 
 /// As many words as a machine can have: memory of this length is never short.
 pub const WORDS: usize = 2048;
@@ -36,6 +37,7 @@ mod place {
     pub const SIZE: usize = 0;
     pub const LIMIT: usize = 1;
     pub const ERROR_PC: usize = 2;
+    pub const GATE_COUNT: usize = 3;
     pub const PC: usize = 28;
     pub const PC_LABEL: usize = 29;
     pub const TIMING_LABEL: usize = 30;
@@ -53,15 +55,20 @@ mod place {
 mod certificate {
     pub const SPAN: usize = 3;
     pub const CAUSE: usize = 0;
-    pub const TICK: usize = 1;
+    pub const BREAK_TICK: usize = 1;
     pub const PLACE: usize = 2;
 }
 
-/// An answer is a number, with a line or a length above it.
+/// An answer is a number, with a line, a length or the limit above it.
 const NUMBERS: u64 = 256;
 const DONE: u64 = 0;
+/// The refusal of a view at a tick above the limit.
+pub const TICK: u8 = 10;
 /// Longer than any listing, which has some 46,000 bytes at most.
 const LISTING: usize = 65_536;
+/// Longer than a listing without W lines, and than a W line.
+const WITHOUT_WORDS: usize = 1_024;
+const WORD_LINE: usize = 32;
 
 #[rustfmt::skip]
 #[link(name = "jennydusk", kind = "static")]
@@ -69,16 +76,20 @@ extern "C" {
     fn jennydusk_load(text: *const u8, text_length: usize, words: *mut u32, words_length: usize, labels: *mut u8, labels_length: usize, record: *mut u64, record_length: usize) -> u64;
     fn jennydusk_step(record: *mut u64, record_length: usize, words: *mut u32, words_length: usize, labels: *mut u8, labels_length: usize) -> u64;
     fn jennydusk_run(record: *mut u64, record_length: usize, words: *mut u32, words_length: usize, labels: *mut u8, labels_length: usize) -> u64;
+    fn jennydusk_run_to(record: *mut u64, record_length: usize, words: *mut u32, words_length: usize, labels: *mut u8, labels_length: usize, tick: u64) -> u64;
     fn jennydusk_print(record: *const u64, record_length: usize, words: *const u32, words_length: usize, labels: *const u8, labels_length: usize, output: *mut u8, output_length: usize) -> u64;
+    fn jennydusk_print_for(record: *const u64, record_length: usize, words: *const u32, words_length: usize, labels: *const u8, labels_length: usize, label: u8, output: *mut u8, output_length: usize) -> u64;
+    fn jennydusk_view(text: *const u8, text_length: usize, label: u8, tick: u64, words: *mut u32, words_length: usize, labels: *mut u8, labels_length: usize, output: *mut u8, output_length: usize) -> u64;
     fn jennydusk_certify(label: u8, text: *const u8, text_length: usize, words: *mut u32, words_length: usize, labels: *mut u8, labels_length: usize, certificate: *mut u64, certificate_length: usize) -> u64;
     fn jennydusk_flows(from: u8, to: u8) -> bool;
 }
 
-/// Why a text is no image: the refusal's number and line.
+/// Why a text is no image: the refusal's number and its line. Or why an image
+/// can't be viewed: TICK, and the limit.
 #[derive(Clone, Copy, Debug, PartialEq, Eq)]
 pub struct Refusal {
     pub number: u8,
-    pub line: usize,
+    pub beside: usize,
 }
 
 /// A pc label and a timing label.
@@ -157,20 +168,39 @@ impl Machine {
         assert_eq!(answer, DONE, "a loaded record in whole memory is run");
     }
 
-    /// Runs to a tick above 0 and no further: a nearer limit ends the run there.
+    /// Does every step that finishes at or before a tick, and none that finishes later.
     pub fn run_to(&mut self, tick: u64) {
-        self.record[place::LIMIT] = tick;
-        self.run();
+        let Machine { record, words, labels } = self;
+        let answer = unsafe { jennydusk_run_to(record.as_mut_ptr(), record.len(), words.as_mut_ptr(), words.len(), labels.as_mut_ptr(), labels.len(), tick) };
+        assert_eq!(answer, DONE, "a loaded record in whole memory is run");
     }
 
     pub fn listing(&self) -> Vec<u8> {
         let Machine { record, words, labels } = self;
         let mut output = vec![0; LISTING];
         let answer = unsafe { jennydusk_print(record.as_ptr(), record.len(), words.as_ptr(), words.len(), labels.as_ptr(), labels.len(), output.as_mut_ptr(), output.len()) };
-        assert_eq!(answer % NUMBERS, DONE, "the output is longer than any listing");
-        output.truncate((answer / NUMBERS) as usize);
-        output
+        listed(answer, output).expect("the output is longer than any listing")
     }
+
+    /// What a label sees, as a listing. Of the words those of a range, which has
+    /// one at least, are lent as if they were all, and are counted from its start.
+    pub fn listing_for(&self, label: u8, lent: Range<usize>) -> Vec<u8> {
+        let mut record = self.record;
+        record[place::SIZE] = lent.len() as u64;
+        let mut output = vec![0; WITHOUT_WORDS + lent.len() * WORD_LINE];
+        let (words, labels) = (&self.words[lent.clone()], &self.labels[lent]);
+        let answer = unsafe { jennydusk_print_for(record.as_ptr(), record.len(), words.as_ptr(), words.len(), labels.as_ptr(), labels.len(), label, output.as_mut_ptr(), output.len()) };
+        listed(answer, output).expect("the output is longer than such a listing")
+    }
+}
+
+/// What a label sees of an image at a tick, as a listing.
+#[rustfmt::skip]
+pub fn view(text: &[u8], label: u8, tick: u64) -> Result<Vec<u8>, Refusal> {
+    let (mut words, mut labels, mut output) = (vec![0; WORDS], vec![0; WORDS], vec![0; LISTING]);
+    // As above, every pointer is that of a slice of the length beside it, and no two overlap.
+    let answer = unsafe { jennydusk_view(text.as_ptr(), text.len(), label, tick, words.as_mut_ptr(), words.len(), labels.as_mut_ptr(), labels.len(), output.as_mut_ptr(), output.len()) };
+    listed(answer, output)
 }
 
 /// Up to which tick nothing of what is hidden at a label can show there, for an
@@ -181,12 +211,21 @@ pub fn certify(label: u8, text: &[u8]) -> Result<Certificate, Refusal> {
     let mut buffer = [0; certificate::SPAN];
     // As above, every pointer is that of a slice of the length beside it, and no two overlap.
     let answer = unsafe { jennydusk_certify(label, text.as_ptr(), text.len(), words.as_mut_ptr(), words.len(), labels.as_mut_ptr(), labels.len(), buffer.as_mut_ptr(), buffer.len()) };
-    let found = Certificate { cause: buffer[certificate::CAUSE], tick: buffer[certificate::TICK], place: buffer[certificate::PLACE] as usize };
+    let found = Certificate { cause: buffer[certificate::CAUSE], tick: buffer[certificate::BREAK_TICK], place: buffer[certificate::PLACE] as usize };
     if answer == DONE { Ok(found) } else { Err(refusal(answer)) }
 }
 
+/// The listing that a call has written at the start of its output.
+fn listed(answer: u64, mut output: Vec<u8>) -> Result<Vec<u8>, Refusal> {
+    if answer % NUMBERS != DONE {
+        return Err(refusal(answer));
+    }
+    output.truncate((answer / NUMBERS) as usize);
+    Ok(output)
+}
+
 fn refusal(answer: u64) -> Refusal {
-    Refusal { number: (answer % NUMBERS) as u8, line: (answer / NUMBERS) as usize }
+    Refusal { number: (answer % NUMBERS) as u8, beside: (answer / NUMBERS) as usize }
 }
 
 /// What the record and the memory hold.
@@ -197,6 +236,10 @@ impl Machine {
 
     pub fn limit(&self) -> u64 {
         self.record[place::LIMIT]
+    }
+
+    pub fn gate_count(&self) -> u64 {
+        self.record[place::GATE_COUNT]
     }
 
     pub fn pc(&self) -> u32 {
@@ -235,14 +278,27 @@ impl Machine {
         Cell { label: self.labels[address], value: self.words[address] }
     }
 
-    /// Whether two machines have the same memory.
-    pub fn same_memory(&self, other: &Machine) -> bool {
-        self.words == other.words && self.labels == other.labels
+    /// From the first to the last address at which two memories differ.
+    pub fn differing_words(&self, other: &Machine) -> Range<usize> {
+        if self.words == other.words && self.labels == other.labels {
+            return 0..0;
+        }
+        let differs = |address: &usize| self.word(*address) != other.word(*address);
+        let first = (0..WORDS).find(differs).unwrap_or(WORDS);
+        let last = (first..WORDS).rfind(differs).unwrap_or(first);
+        first..last + 1
     }
 }
 
 /// Questions that a step on a copy answers.
 impl Machine {
+    /// The tick at which the next step finishes.
+    pub fn next_clock(&self) -> u64 {
+        let mut copy = self.clone();
+        copy.step();
+        copy.clock()
+    }
+
     /// Why the next fetch fails, or 0. At the error pc, outside a call, a failed
     /// fetch stalls, and a stall says why.
     pub fn why_fetch_fails(&self) -> u64 {
@@ -309,10 +365,11 @@ impl Machine {
     }
 }
 
+/// The label that sees all.
+pub const HIGHEST: u8 = 15;
 /// The greatest limit, and ticks that are more than any op's.
 const LONGEST_LIMIT: u64 = 16_777_216;
 const LONG_ENOUGH: u64 = 100;
-const HIGHEST: u8 = 15;
 
 fn pair(pc_label: u64, timing_label: u64) -> Pair {
     Pair { pc_label: pc_label as u8, timing_label: timing_label as u8 }
@@ -352,6 +409,7 @@ mod tests {
             ("SIZE", place::SIZE),
             ("LIMIT", place::LIMIT),
             ("ERROR_PC", place::ERROR_PC),
+            ("GATE_COUNT", place::GATE_COUNT),
             ("PC", place::PC),
             ("PC_LABEL", place::PC_LABEL),
             ("TIMING_LABEL", place::TIMING_LABEL),
@@ -360,7 +418,7 @@ mod tests {
             ("WHY", place::WHY),
             ("CERTIFICATE_SPAN", certificate::SPAN),
             ("CAUSE", certificate::CAUSE),
-            ("TICK", certificate::TICK),
+            ("BREAK_TICK", certificate::BREAK_TICK),
             ("PLACE", certificate::PLACE),
         ];
         for (name, place) in numbers {
@@ -387,6 +445,8 @@ mod tests {
             ("AT_LARGE", AT_LARGE),
             ("TIMED_FROM_OUTSIDE", TIMED_FROM_OUTSIDE),
             ("DONE", DONE),
+            ("TICK", TICK.into()),
+            ("HIGHEST", HIGHEST.into()),
         ];
         for (name, number) in numbers {
             assert_eq!(defined(name), number.to_string(), "{name}");

@@ -19,6 +19,7 @@ mod source;
 mod standard;
 mod status;
 mod trace;
+mod view;
 
 use command::{Command, COMMANDS, HELP, SHORT_HELP};
 use status::{Failure, Status};

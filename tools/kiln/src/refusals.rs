@@ -1,8 +1,9 @@
-//! Each refusal of the loader in words, with its number. The library gives the
-//! number and the line; a number has several causes, and the line shows which.
+//! Each refusal of the loader in words, with its number, and that of a view. The
+//! library gives the number and the line; a number has several causes, and the
+//! line shows which.
 
 use crate::files;
-use crate::library::{Refusal, TEXT};
+use crate::library::{Refusal, TEXT, TICK};
 use crate::status::Failure;
 
 const LF: u8 = b'\n';
@@ -13,29 +14,36 @@ const MACHINE: &[u8] = b"M";
 const GATE: &[u8] = b"G";
 const GATES: usize = 8;
 
+/// `X,4,3`, the line that `firing` and `viewing` print.
+pub fn line(refusal: &Refusal) -> String {
+    format!("X,{},{}\n", refusal.number, refusal.beside)
+}
+
 /// A refused image, as a command's failure; the name may stand for standard input.
 pub fn failure(name: &str, text: &[u8], refusal: &Refusal) -> Failure {
     Failure::refused(in_words(files::name_of(name), text, refusal))
 }
 
 /// `ramp.txt:3: 4, the number doesn't rise`. What is said of the whole text, at
-/// line 0, is told without a line.
+/// line 0 or of its limit, is told without a line.
 pub fn in_words(name: &str, text: &[u8], refusal: &Refusal) -> String {
-    let Refusal { number, line } = *refusal;
+    let Refusal { number, beside } = *refusal;
     let cause = cause(text, refusal);
-    match line {
-        0 => format!("{name}: {number}, {cause}"),
-        _ => format!("{name}:{line}: {number}, {cause}"),
+    match (number, beside) {
+        (TICK, limit) => format!("{name}: {number}, {cause}, which is {limit}"),
+        (_, 0) => format!("{name}: {number}, {cause}"),
+        (_, line) => format!("{name}:{line}: {number}, {cause}"),
     }
 }
 
 pub fn cause(text: &[u8], refusal: &Refusal) -> &'static str {
-    let lines: Vec<&[u8]> = text.split(|byte| *byte == LF).take(refusal.line).collect();
+    let all = || text.split(|byte| *byte == LF);
+    let lines: Vec<&[u8]> = all().take(refusal.beside).collect();
     let (line, before) = lines.split_last().unwrap_or((&text, &[]));
     match refusal.number {
         1 if text.len() > TEXT => "the text is longer than 65,535 bytes",
         1 => "the text is empty",
-        2 if text.split(|byte| *byte == LF).count() == refusal.line => "the line doesn't end in LF",
+        2 if all().count() == refusal.beside => "the line doesn't end in LF",
         2 => malformed(line, before.is_empty()),
         3 if is_ninth_gate(line, before) => "this is a ninth gate",
         3 => "a number is outside its range",
@@ -43,6 +51,7 @@ pub fn cause(text: &[u8], refusal: &Refusal) -> &'static str {
         5 => "the pair isn't valid",
         6 => "the memory is shorter than the size",
         9 => "this is an R line for register 0, which is always 0",
+        TICK => "the tick is above the limit",
         _ => "the library knows why",
     }
 }

@@ -2,7 +2,7 @@
 
 use crate::command::Arguments;
 use crate::files;
-use crate::library::{Machine, Refusal, HALTED};
+use crate::library::{Machine, HALTED};
 use crate::refusals;
 use crate::status::{Failure, Status};
 
@@ -12,8 +12,8 @@ pub fn run(arguments: &Arguments) -> Result<Status, Failure> {
     let text = files::read_image(&arguments.file)?;
     let output = arguments.output.as_deref();
     let loaded = Machine::load(&text);
-    if let (Err(Refusal { number, line }), None) = (&loaded, output) {
-        files::write(None, format!("X,{number},{line}\n").as_bytes())?;
+    if let (Err(refusal), None) = (&loaded, output) {
+        files::write(None, refusals::line(refusal).as_bytes())?;
     }
     let mut machine =
         loaded.map_err(|refusal| refusals::failure(&arguments.file, &text, &refusal))?;

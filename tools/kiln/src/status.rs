@@ -3,12 +3,12 @@
 /// The exit statuses, as kiln(1) lists them.
 #[derive(Clone, Copy, Debug, PartialEq, Eq)]
 pub enum Status {
-    /// Done; of a run, halted; of a certificate, to the end.
+    /// Done; of a run, halted; of a view, listed; of a certificate, to the end.
     Done = 0,
     /// Done, with another end: a spent clock or a stall, or a certificate up to
     /// a tick.
     EndedOtherwise = 1,
-    /// The image, the source or the command line is refused.
+    /// The image, the source, the tick or the command line is refused.
     Refused = 2,
     /// Input or output failed.
     Failed = 3,

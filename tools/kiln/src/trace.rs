@@ -8,7 +8,7 @@ mod watch;
 
 use crate::command::Arguments;
 use crate::files;
-use crate::library::{Machine, RUNNING};
+use crate::library::{Machine, HIGHEST, RUNNING};
 use crate::refusals;
 use crate::status::{Failure, Status};
 use sight::Sight;
@@ -21,25 +21,27 @@ pub fn trace(arguments: &Arguments) -> Result<Status, Failure> {
     let mut output = BufWriter::new(files::standard_output()?);
     let written = match arguments.label {
         None => steps(machine, &mut output),
-        Some(label) => watch::ticks(machine, Sight::of(label), &mut output),
+        Some(label) => watch::ticks(machine, label, &mut output),
     };
     written.and_then(|()| output.flush()).map_err(|error| files::output_failed(&error))?;
     Ok(Status::Done)
 }
 
-/// One line for each step.
+/// One line for each step, for whoever may read the whole image.
 fn steps(mut machine: Machine, output: &mut impl Write) -> io::Result<()> {
-    let everything = Sight::everything();
     let mut before = machine.clone();
+    let mut sight = Sight::of(HIGHEST, &machine);
     lines::header(output)?;
     while before.end() == RUNNING {
         machine.step();
-        let mut changes = changes::between(&before, &machine, &everything);
+        let after = sight.later(HIGHEST, &machine, before.differing_words(&machine));
+        let mut changes = changes::between(&before, &sight, &after);
         if changes.is_empty() {
             changes.push(changes::without_effect(&before).to_string());
         }
         lines::step(output, machine.clock(), &before, &changes)?;
         before.clone_from(&machine);
+        sight = after;
     }
     Ok(())
 }

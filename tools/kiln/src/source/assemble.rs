@@ -203,7 +203,7 @@ fn refused(assembled: &Assembled, errors: &[Error]) -> Option<Error> {
     };
     let text = assembled.image();
     let refusal = library::Machine::load(text.as_bytes()).err()?;
-    let at = assembled.lines[refusal.line.max(1) - 1].at;
+    let at = assembled.lines[refusal.beside.max(1) - 1].at;
     let is_known = errors.iter().any(|error| error.at.is_some_and(|known| known.line == at.line));
     let message = format!(
         "the loader refuses this: {}, {}",

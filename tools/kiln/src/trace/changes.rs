@@ -1,46 +1,44 @@
-//! What differs between two states, as far as it is within sight, in words.
+//! What differs between what is seen of two states, in words.
 
 use super::lines::HIDDEN;
-use super::sight::Sight;
+use super::sight::{Cells, Control, Sight};
 use crate::library::{
-    Call, Cell, Machine, Pair, CLOCK_SPENT, HALTED, REGISTERS, RUNNING, UPCALL, WHY_LABEL, WHY_PC,
+    Call, Cell, Machine, Pair, CLOCK_SPENT, HALTED, RUNNING, UPCALL, WHY_LABEL, WHY_PC,
     ZERO_REGISTER,
 };
 use crate::ops;
-use std::ops::Range;
+use std::rc::Rc;
 
 const CHECK_FAILS: &str = "! no effect: the check fails";
 const ZERO_REGISTER_STAYS: &str = "! no effect: register 0 never changes";
 
-/// Every change but that of the clock, and of the pc by 1.
-pub fn between(before: &Machine, after: &Machine, sight: &Sight) -> Vec<String> {
-    let registers = |number| (before.register(number), after.register(number));
-    let words = |address| (before.word(address), after.word(address));
-    let addresses = if before.same_memory(after) { 0..0 } else { 0..after.size() };
-    let mut changes = cells("R", 0..REGISTERS, registers, sight);
-    changes.extend(cells("word ", addresses, words, sight));
-    match (sight.control(before), sight.control(after)) {
-        (true, true) => changes.extend(control_changes(before, after)),
-        (true, false) => changes.push(HIDDEN.to_string()),
-        (false, true) => changes.extend(control(after)),
-        (false, false) => {}
+/// Every change in sight but that of the clock, and of the pc by 1. The machine
+/// is the one before.
+pub fn between(machine: &Machine, before: &Sight, after: &Sight) -> Vec<String> {
+    let mut changes = cells("R", &before.registers, &after.registers);
+    if !Rc::ptr_eq(&before.words, &after.words) {
+        changes.extend(cells("word ", &before.words, &after.words));
+    }
+    match (&before.control, &after.control) {
+        (Some(before), Some(after)) => changes.extend(control_changes(machine, before, after)),
+        (Some(_), None) => changes.push(HIDDEN.to_string()),
+        (None, Some(after)) => changes.extend(control(after)),
+        (None, None) => {}
     }
     changes
 }
 
-/// The changes of locations of a kind, each given by its number as it was and is.
-fn cells(
-    kind: &str,
-    numbers: Range<usize>,
-    at: impl Fn(usize) -> (Cell, Cell),
-    sight: &Sight,
-) -> Vec<String> {
-    let changed = numbers.filter(|number| at(*number).0 != at(*number).1);
-    changed.flat_map(|number| cell(&format!("{kind}{number}"), at(number), sight)).collect()
+/// The changes of locations of a kind.
+fn cells(kind: &str, before: &Cells, after: &Cells) -> Vec<String> {
+    let both = before.iter().zip(after).enumerate();
+    let changed = both.filter(|(_, (before, after))| before != after);
+    changed
+        .flat_map(|(number, (before, after))| cell(&format!("{kind}{number}"), *before, *after))
+        .collect()
 }
 
-fn cell(name: &str, (before, after): (Cell, Cell), sight: &Sight) -> Vec<String> {
-    match (sight.cell(before), sight.cell(after)) {
+fn cell(name: &str, before: Option<Cell>, after: Option<Cell>) -> Vec<String> {
+    match (before, after) {
         (Some(before), Some(after)) => {
             let label = format!("label of {name} := {}", after.label);
             let label = (before.label != after.label).then_some(label);
@@ -59,31 +57,31 @@ pub fn location(name: &str, cell: Cell) -> String {
 }
 
 /// The control as it stands: pc, pair, open calls and end.
-pub fn control(machine: &Machine) -> Vec<String> {
-    let place = [format!("pc {}", machine.pc()), pair(machine.pair())];
-    let calls = machine.calls().into_iter().map(open);
-    place.into_iter().chain(calls).chain(end(machine)).collect()
+pub fn control(control: &Control) -> Vec<String> {
+    let place = [format!("pc {}", control.pc), pair(control.pair)];
+    let calls = control.calls.iter().map(|call| open(*call));
+    place.into_iter().chain(calls).chain(end(control)).collect()
 }
 
-fn control_changes(before: &Machine, after: &Machine) -> Vec<String> {
-    let (old, new) = (before.calls(), after.calls());
+fn control_changes(machine: &Machine, before: &Control, after: &Control) -> Vec<String> {
+    let (old, new) = (&before.calls, &after.calls);
     let mut changes: Vec<String> = Vec::new();
     changes.extend(old.iter().filter(|call| !new.contains(call)).map(|call| closed(*call)));
-    let goes_on = changes.is_empty() && before.why_fetch_fails() == 0 && is_next(before, after);
-    let stays = after.end() != RUNNING && after.pc() == before.pc();
+    let goes_on = changes.is_empty() && machine.why_fetch_fails() == 0 && is_next(before, after);
+    let stays = after.end != RUNNING && after.pc == before.pc;
     changes.extend(new.iter().filter(|call| !old.contains(call)).map(|call| open(*call)));
-    if before.pair() != after.pair() {
-        changes.push(pair(after.pair()));
+    if before.pair != after.pair {
+        changes.push(pair(after.pair));
     }
     if !goes_on && !stays {
-        changes.push(format!("to {}", after.pc()));
+        changes.push(format!("to {}", after.pc));
     }
     changes.extend(end(after));
     changes
 }
 
-fn is_next(before: &Machine, after: &Machine) -> bool {
-    u64::from(after.pc()) == u64::from(before.pc()) + 1
+fn is_next(before: &Control, after: &Control) -> bool {
+    u64::from(after.pc) == u64::from(before.pc) + 1
 }
 
 fn pair(pair: Pair) -> String {
@@ -103,13 +101,13 @@ fn closed(call: Call) -> String {
     format!("{kind} closed")
 }
 
-fn end(machine: &Machine) -> Option<String> {
-    let why = match machine.why() {
+fn end(control: &Control) -> Option<String> {
+    let why = match control.why {
         WHY_PC => "the pc is not below the size",
         WHY_LABEL => "the word's label doesn't flow to the pc label",
         _ => "the op is unknown",
     };
-    match machine.end() {
+    match control.end {
         RUNNING => None,
         HALTED => Some("halted".to_string()),
         CLOCK_SPENT => Some("clock spent".to_string()),
