@@ -9,29 +9,17 @@ use lib.Dec.{leb, ltb}
 use lib.ListN.{getD, set}
 use Rattle.labels.specs.Label.{flows, join}
 use Rattle.model.specs.Record.{State, inUpcall}
-use Rattle.model.specs.Word.{Arithmetic as Computation, Op, add, subtract, and, or, xor, less, multiply, opField, aField, bField, cField, decode, compute}
+use Rattle.model.specs.Word.{Arithmetic, Op, opField, aField, bField, cField, decode, compute}
 use Rattle.model.specs.Ops.{writable, arithmeticTicks, Change, table}
 use Rattle.model.specs.Step.{Decision, close, spend, carry, failed, fetched, fetch, known, endTick, attempt, plan, inLimit, decide, step, moved}
 use Rattle.engine.specs.declared.steps.common.Stop.{Stop}
 use Rattle.engine.specs.declared.steps.common.Stop.the-variants.{Out, Late, Outside, Unreadable, Failed, Rest}
 use Rattle.engine.specs.declared.steps.common.Turn.{Turn}
 use Rattle.engine.specs.declared.steps.common.Context.{Context}
-use Rattle.engine.specs.declared.steps.common.Arithmetic.{Arithmetic}
-use Rattle.engine.specs.declared.steps.common.Arithmetic.the-variants.{Add, Subtract, And, Or, Xor, Less, Multiply}
 use Rattle.engine.specs.Skim.{isCommonOp, fetchesCommon, isCommon}
 use Rattle.engine.specs.Calls.{deadlineOf}
 
 -- ---- what the leaves answer
-
--- The model's op that an arithmetic op of the code is.
-abbrev pub arithmeticOf : Arithmetic → Computation
-arithmeticOf Add = add
-arithmeticOf Subtract = subtract
-arithmeticOf And = and
-arithmeticOf Or = or
-arithmeticOf Xor = xor
-arithmeticOf Less = less
-arithmeticOf Multiply = multiply
 
 -- The turn did a step.
 abbrev pub going : ℕ → ℕ → Turn
@@ -61,7 +49,7 @@ pub record Assigned (before : List ℕ) (a : ℕ) (ok : Bool) (v ticks pc clock 
   pub values : after ≡ cond (leb (clock + ticks) deadline) (cond (ok && writable a) (set before a v) before) before
 
 -- Ops 2 to 8 at the word w: register a got what f computes from the registers b and c, as the model's row has it.
-abbrev pub Combined : Computation → List ℕ → List ℕ → Context → ℕ → ℕ → ℕ → Turn → List ℕ → Type 0
+abbrev pub Combined : Arithmetic → List ℕ → List ℕ → Context → ℕ → ℕ → ℕ → Turn → List ℕ → Type 0
 Combined f before labels context w pc clock r after =
     let x = getD before (bField w) 0 in
     let y = getD before (cField w) 0 in

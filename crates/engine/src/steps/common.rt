@@ -7,19 +7,23 @@ use crate::word::c_of;
 use crate::word::index;
 use crate::word::n_of;
 use crate::word::op_of;
+use arithmetic::Arithmetic;
+use arithmetic::compute;
+use arithmetic::ticks_of;
 use labels::Label;
 use model::numbers::REGISTER_COUNT;
 use model::numbers::ZERO_REGISTER;
-ghost use Prim.Native.Nat.{_+_, _*_, _%_, _^_, _≤_, _<_};
+ghost use Prim.Native.Nat.{_+_, _≤_, _<_};
 ghost use mathlib.Core.Path.{_≡_};
 ghost use mathlib.Core.Bool.{cond, _&&_};
 ghost use lib.Dec.{ltb};
 ghost use lib.ListN.{length, getD, set};
 ghost use Rattle.labels.specs.Label.{flows, join};
 ghost use Rattle.model.specs.Numbers.{mostWords, mostTicks, registerCount};
-ghost use Rattle.model.specs.Word.{nField, compute, add, subtract, less as lessThan, multiply};
-ghost use Rattle.model.specs.Ops.{writable, multiplyTicks, arithmeticTicks};
-ghost use Rattle.engine.specs.Inner.Common.{arithmeticOf, going, stopping, Gone, Assigned, Combined, ReadWord, Stored, Common};
+ghost use Rattle.model.specs.Word.{nField};
+ghost use Rattle.model.specs.Ops.{writable};
+ghost use Rattle.arithmetic.specs.Arithmetic.{arithmeticOf};
+ghost use Rattle.engine.specs.Inner.Common.{going, stopping, Gone, Assigned, Combined, ReadWord, Stored, Common};
 ghost use Rattle.engine.specs.Inner.Sprint.{Sprinted};
 
 // Why the hot loop stopped.
@@ -44,17 +48,6 @@ pub struct Turn {
     pub pc: u32,
     pub clock: u32,
     pub stop: Stop,
-}
-
-// The ops 2 to 8.
-pub enum Arithmetic {
-    Add,
-    Subtract,
-    And,
-    Or,
-    Xor,
-    Less,
-    Multiply,
 }
 
 // What stays the same while the hot loop runs: the size, the pc label and the timing label, whether an upcall is open, and
@@ -110,75 +103,6 @@ fn one_flows(x: u8, to: u8) -> bool
     ensures { λ r. ⌜ r ≡ flows x to ⌝ }
 {
     Label(x).flows_to(Label(to))
-}
-
-// 1 if x is below y, else 0.
-fn less(x: u32, y: u32) -> u32
-    ensures { λ r. ⌜ r ≡ compute lessThan x y ⌝ }
-{
-    if x < y { 1 } else { 0 }
-}
-
-// x and y, without the carry out of 32 bits.
-fn plus(x: u32, y: u32) -> u32
-    ensures { λ r. ⌜ r ≡ compute add x y ⌝ }
-{
-    std::num::wrapping_add_u32(x, y)
-}
-
-// x less y, without the borrow out of 32 bits.
-fn minus(x: u32, y: u32) -> u32
-    ensures { λ r. ⌜ r ≡ compute subtract x y ⌝ }
-{
-    std::num::wrapping_sub_u32(x, y)
-}
-
-// The low 32 bits of the product.
-fn product(x: u32, y: u32) -> u32
-    ensures { λ r. ⌜ r ≡ compute multiply x y ⌝ }
-{
-    ((x as u64) * (y as u64) % 4294967296) as u32
-}
-
-// The ticks of op 8 at the factor y.
-fn multiply_ticks(visible: bool, y: u32) -> u32
-    ensures { λ r. ⌜ (r ≡ multiplyTicks visible y) × (1 ≤ r) × (r ≤ 10) ⌝ }
-{
-    if visible {
-        2 + (32 - u32::leading_zeros(y) + 3) / 4
-    } else {
-        10
-    }
-}
-
-// What an arithmetic op computes.
-fn compute(f: Arithmetic, x: u32, y: u32) -> u32
-    ensures { λ r. ⌜ r ≡ compute (arithmeticOf f) x y ⌝ }
-{
-    match f {
-        Arithmetic::Add => plus(x, y),
-        Arithmetic::Subtract => minus(x, y),
-        Arithmetic::And => x & y,
-        Arithmetic::Or => x | y,
-        Arithmetic::Xor => x ^ y,
-        Arithmetic::Less => less(x, y),
-        Arithmetic::Multiply => product(x, y),
-    }
-}
-
-// Its ticks at the second operand y, where both operands' labels flow to the timing label or not.
-fn ticks_of(f: Arithmetic, visible: bool, y: u32) -> u32
-    ensures { λ r. ⌜ (r ≡ arithmeticTicks (arithmeticOf f) visible y) × (r ≤ 10) ⌝ }
-{
-    match f {
-        Arithmetic::Add => 1,
-        Arithmetic::Subtract => 1,
-        Arithmetic::And => 1,
-        Arithmetic::Or => 1,
-        Arithmetic::Xor => 1,
-        Arithmetic::Less => 1,
-        Arithmetic::Multiply => multiply_ticks(visible, y),
-    }
 }
 
 // Where a branch goes on.

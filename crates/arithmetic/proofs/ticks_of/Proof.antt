@@ -1,8 +1,8 @@
--- `engine::steps::common::ticks_of` meets its contract.
+-- `arithmetic::ticks_of` meets its contract.
 -- Assumes nothing.
 use borrow.Author.Needs.{needs}
-use Rattle.engine.proofs.steps.common.ticks_of.Statement.{statement}
-use Rattle.engine.proofs.steps.common.ticks_of.Tie as tie
+use Rattle.arithmetic.proofs.ticks_of.Statement.{statement}
+use Rattle.arithmetic.proofs.ticks_of.Tie as tie
 
 enum-told : tie.Need-enum-told
 enum-told c = search needs

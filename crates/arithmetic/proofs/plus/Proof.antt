@@ -1,9 +1,9 @@
--- `engine::steps::common::plus` meets its contract.
+-- `arithmetic::plus` meets its contract.
 -- Assumes nothing.
 use borrow.Author.Needs.{needs}
 use Rattle.model.specs.Word.{compute}
-use Rattle.engine.proofs.steps.common.plus.Statement.{statement}
-use Rattle.engine.proofs.steps.common.plus.Tie as tie
+use Rattle.arithmetic.proofs.plus.Statement.{statement}
+use Rattle.arithmetic.proofs.plus.Tie as tie
 
 wrapping-add-u32-requires : tie.Need-wrapping-add-u32-requires
 wrapping-add-u32-requires c κs = search needs

@@ -1,11 +1,11 @@
--- `engine::steps::common::product` meets its contract.
+-- `arithmetic::product` meets its contract.
 -- Assumes nothing.
 use mathlib.Core.Path.{refl}
 use borrow.Author.Needs.{needs}
 use Rattle.model.specs.Word.{compute}
-use Rattle.engine.proofs.Numbers.{below}
-use Rattle.engine.proofs.steps.common.product.Statement.{statement}
-use Rattle.engine.proofs.steps.common.product.Tie as tie
+use Rattle.arithmetic.proofs.Numbers.{below}
+use Rattle.arithmetic.proofs.product.Statement.{statement}
+use Rattle.arithmetic.proofs.product.Tie as tie
 
 mul-result : tie.Need-mul-result
 unfolding compute

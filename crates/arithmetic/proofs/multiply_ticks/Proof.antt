@@ -1,11 +1,11 @@
--- `engine::steps::common::multiply_ticks` meets its contract.
+-- `arithmetic::multiply_ticks` meets its contract.
 -- Assumes nothing.
 use native.Mathlib.Omega.{arith}
 use borrow.Author.Needs.{needs}
 use lib.Count.{leading-le}
 use Rattle.model.specs.Ops.{multiplyTicks, significantBits}
-use Rattle.engine.proofs.steps.common.multiply_ticks.Statement.{statement}
-use Rattle.engine.proofs.steps.common.multiply_ticks.Tie as tie
+use Rattle.arithmetic.proofs.multiply_ticks.Statement.{statement}
+use Rattle.arithmetic.proofs.multiply_ticks.Tie as tie
 
 sub-result : tie.Need-sub-result
 unfolding multiplyTicks significantBits

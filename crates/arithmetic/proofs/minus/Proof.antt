@@ -1,10 +1,10 @@
--- `engine::steps::common::minus` meets its contract.
+-- `arithmetic::minus` meets its contract.
 -- Assumes nothing.
 use borrow.Author.Needs.{needs}
 use Rattle.model.specs.Word.{compute}
-use Rattle.engine.proofs.Numbers.{subtracted}
-use Rattle.engine.proofs.steps.common.minus.Statement.{statement}
-use Rattle.engine.proofs.steps.common.minus.Tie as tie
+use Rattle.arithmetic.proofs.Numbers.{subtracted}
+use Rattle.arithmetic.proofs.minus.Statement.{statement}
+use Rattle.arithmetic.proofs.minus.Tie as tie
 
 wrapping-sub-u32-requires : tie.Need-wrapping-sub-u32-requires
 wrapping-sub-u32-requires c κs = search needs

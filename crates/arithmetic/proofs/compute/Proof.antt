@@ -1,9 +1,9 @@
--- `engine::steps::common::compute` meets its contract: each op by what its function promises, or by the definition.
+-- `arithmetic::compute` meets its contract: each op by what its function promises, or by the definition.
 -- Assumes nothing.
 use borrow.Author.Needs.{needs}
 use Rattle.model.specs.Word.{compute}
-use Rattle.engine.proofs.steps.common.compute.Statement.{statement}
-use Rattle.engine.proofs.steps.common.compute.Tie as tie
+use Rattle.arithmetic.proofs.compute.Statement.{statement}
+use Rattle.arithmetic.proofs.compute.Tie as tie
 
 enum-told : tie.Need-enum-told
 enum-told c = search needs

@@ -1,9 +1,9 @@
--- `engine::steps::common::less` meets its contract.
+-- `arithmetic::less` meets its contract.
 -- Assumes nothing.
 use borrow.Author.Tests.{lt-ltb, le-ltb}
 use Rattle.model.specs.Word.{compute}
-use Rattle.engine.proofs.steps.common.less.Statement.{statement}
-use Rattle.engine.proofs.steps.common.less.Tie as tie
+use Rattle.arithmetic.proofs.less.Statement.{statement}
+use Rattle.arithmetic.proofs.less.Tie as tie
 
 returns : tie.Need-returns
 unfolding compute

@@ -1,0 +1,86 @@
+// What ops 2 to 8 compute from two registers, and how many ticks they take.
+ghost use Prim.Native.Nat.{_≤_};
+ghost use mathlib.Core.Path.{_≡_};
+ghost use Rattle.model.specs.Word.{compute, add, subtract, less as lessThan, multiply};
+ghost use Rattle.model.specs.Ops.{multiplyTicks, arithmeticTicks};
+ghost use Rattle.arithmetic.specs.Arithmetic.{arithmeticOf};
+
+// The ops 2 to 8.
+pub enum Arithmetic {
+    Add,
+    Subtract,
+    And,
+    Or,
+    Xor,
+    Less,
+    Multiply,
+}
+
+// 1 if x is below y, else 0.
+fn less(x: u32, y: u32) -> u32
+    ensures { λ r. ⌜ r ≡ compute lessThan x y ⌝ }
+{
+    if x < y { 1 } else { 0 }
+}
+
+// x and y, without the carry out of 32 bits.
+fn plus(x: u32, y: u32) -> u32
+    ensures { λ r. ⌜ r ≡ compute add x y ⌝ }
+{
+    std::num::wrapping_add_u32(x, y)
+}
+
+// x less y, without the borrow out of 32 bits.
+fn minus(x: u32, y: u32) -> u32
+    ensures { λ r. ⌜ r ≡ compute subtract x y ⌝ }
+{
+    std::num::wrapping_sub_u32(x, y)
+}
+
+// The low 32 bits of the product.
+fn product(x: u32, y: u32) -> u32
+    ensures { λ r. ⌜ r ≡ compute multiply x y ⌝ }
+{
+    ((x as u64) * (y as u64) % 4294967296) as u32
+}
+
+// The ticks of op 8 at the factor y.
+fn multiply_ticks(visible: bool, y: u32) -> u32
+    ensures { λ r. ⌜ (r ≡ multiplyTicks visible y) × (1 ≤ r) × (r ≤ 10) ⌝ }
+{
+    if visible {
+        2 + (32 - u32::leading_zeros(y) + 3) / 4
+    } else {
+        10
+    }
+}
+
+// What an arithmetic op computes.
+pub fn compute(f: Arithmetic, x: u32, y: u32) -> u32
+    ensures { λ r. ⌜ r ≡ compute (arithmeticOf f) x y ⌝ }
+{
+    match f {
+        Arithmetic::Add => plus(x, y),
+        Arithmetic::Subtract => minus(x, y),
+        Arithmetic::And => x & y,
+        Arithmetic::Or => x | y,
+        Arithmetic::Xor => x ^ y,
+        Arithmetic::Less => less(x, y),
+        Arithmetic::Multiply => product(x, y),
+    }
+}
+
+// Its ticks at the second operand y, where both operands' labels flow to the timing label or not.
+pub fn ticks_of(f: Arithmetic, visible: bool, y: u32) -> u32
+    ensures { λ r. ⌜ (r ≡ arithmeticTicks (arithmeticOf f) visible y) × (r ≤ 10) ⌝ }
+{
+    match f {
+        Arithmetic::Add => 1,
+        Arithmetic::Subtract => 1,
+        Arithmetic::And => 1,
+        Arithmetic::Or => 1,
+        Arithmetic::Xor => 1,
+        Arithmetic::Less => 1,
+        Arithmetic::Multiply => multiply_ticks(visible, y),
+    }
+}
