@@ -19,10 +19,11 @@ use Rattle.model.specs.declared.CallGate.{CallGate}
 use Rattle.model.specs.Numbers.{zeroRegister, registerCount}
 use Rattle.model.specs.Record.{State, Location, register, word, valueAt, labelAt, isEmpty, isGate, pairOf, newest, inUpcall}
 use Rattle.model.specs.WellFormed.{isValid}
-use Rattle.model.specs.Word.{Arithmetic, add, subtract, and, or, xor, less, multiply, Rule, raise, relabel, Op, immediate, arithmetic, load, store, branch, jump, readClock, setLabel, setPair, upcall, endUpcall, gateCall, gateReturn, halt, opField, aField, nField, decode, compute}
+use Rattle.model.specs.Word.{Arithmetic, add, subtract, and, or, xor, less, multiply, divide, remainder, Rule, raise, relabel, Op, immediate, arithmetic, load, store, branch, jump, readClock, setLabel, setPair, upcall, endUpcall, gateCall, gateReturn, halt, opField, aField, nField, decode, compute}
 use Rattle.model.specs.Ops.{writable, Write, nothing, value, label, Change, write, goto, enter, openUpcall, openGate, closeGate, stop, Effect, does, ends, Row, allows, newPairAllowed, mayUpcall, mayCallGate, mayReturn, multiplyTicks, arithmeticTicks, noGate, isLabel, Ra, Rb, newPair, gate, table}
 use Rattle.model.specs.Step.{known, fetchAllowed, fetch, Decision, rest, spend, stall, close, carry, endTick, finish, fault, passed, attempt, inTime, plan, beyondLimit, inLimit, running, decide}
 use Rattle.model.proofs.Ready.{_⊑_, Ready, register-value}
+use Rattle.model.proofs.Division.{division-ticks, division-lt}
 use Rattle.model.proofs.Truth.{choice, and-iff, or-iff, or-true, not-iff, clash}
 
 -- A location is a register that exists, or a word below the size.
@@ -115,7 +116,7 @@ label-lt : (v : ℕ) → isLabel v ≡ true → v < labelCount
 unfolding isLabel
 label-lt v e = ltb-true v labelCount e
 
--- What ops 2 to 8 compute has 32 bits.
+-- What an arithmetic op computes has 32 bits.
 compute-lt : (f : Arithmetic) (x y : ℕ) → x < 2 ^ 32 → y < 2 ^ 32 → compute f x y < 2 ^ 32
 unfolding compute
 compute-lt add x y hx hy = mod-lt _ (lit< tt)
@@ -125,6 +126,8 @@ compute-lt or x y hx hy = or-lt 32 x y hx hy
 compute-lt xor x y hx hy = xor-lt 32 x y hx hy
 compute-lt less x y hx hy = bit-lt (ltb x y)
 compute-lt multiply x y hx hy = mod-lt _ (lit< tt)
+compute-lt divide x y hx hy = division-lt x y hx .0
+compute-lt remainder x y hx hy = division-lt x y hx .1
 
 -- Every op takes at least a tick.
 pub ticks-long : (f : Arithmetic) (visible : Bool) (v : ℕ) → 1 ≤ arithmeticTicks f visible v
@@ -137,6 +140,8 @@ ticks-long xor visible v = lit≤ tt
 ticks-long less visible v = lit≤ tt
 ticks-long multiply true v = omega arith
 ticks-long multiply false v = omega arith
+ticks-long divide visible v = rw (division-ticks visible v .0) (lit≤ tt)
+ticks-long remainder visible v = rw (division-ticks visible v .1) (lit≤ tt)
 
 -- A test of two numbers below and two equal: of what it says one holds.
 below-or-equal : (i j m n : ℕ) → (ltb i j || eqb m n) ≡ true → (i < j) ⊎ (m ≡ n)

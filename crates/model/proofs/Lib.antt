@@ -1,5 +1,6 @@
 pub mod Truth
 pub mod Writes
+pub mod Division
 pub mod Ready
 pub mod Legal
 pub mod WellFormed

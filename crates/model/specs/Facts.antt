@@ -1,5 +1,5 @@
--- The starred facts of document 01, "Firings to check", as one table: each row is a test of the definitions, and
--- proofs/Facts.antt has the checker compute that all pass.
+-- The starred facts of document 01, "Firings to check", and behind them facts of divisions, as one table: each row is a
+-- test of the definitions, and proofs/Facts.antt has the checker compute that all pass.
 -- Assumes nothing.
 use Prim.Native.Nat.{ℕ, zero, suc, _+_, _-_, _*_, _^_}
 use mathlib.Core.Bool.{Bool, true, not, _&&_, cond}
@@ -13,7 +13,7 @@ use Rattle.model.specs.Record.{State, isEmpty, newest, valueAt, register
 use Rattle.model.specs.Ops.{multiplyTicks, noGate}
 use Rattle.model.specs.Step.{step}
 
--- ---- a state to try an upcall in
+-- ---- a state to try an op in
 
 -- A word with its op and what it names.
 abbrev pub wordOf : ℕ → ℕ → ℕ → ℕ → ℕ
@@ -23,20 +23,23 @@ wordOf op a b n = op * 2 ^ 24 + a * 2 ^ 20 + b * 2 ^ 16 + n
 abbrev pub lowPair : Pair
 lowPair = record { pc = lowest; timing = lowest }
 
--- A machine at clock 10 and pc 0, of size 8, with error pc 7 and limit 100. Register 1 holds the ticks of the upcall,
--- registers 2 and 3 its pair, register 4 its return pc 3. The program is the upcall and then the word given.
-abbrev pub trial : ℕ → ℕ → State
-trial ticks w =
+-- A machine at clock 10 and pc 0, of size 8, with error pc 7 and limit 100, and with these values in its registers 1 to 4
+-- and these two words as its program.
+abbrev pub machine : ℕ → ℕ → ℕ → ℕ → ℕ → ℕ → State
+machine r1 r2 r3 r4 first second =
     record {
       fixed = record { size = 8; limit = 100; errorpc = 7; count = 0; gates = replicate 8 noGate };
       control = record { pc = 0; pair = lowPair; clock = 10; first = Empty; second = Empty; end = 0; why = 0 };
-      registers = record { values = 0 ∷ ticks ∷ 240 ∷ 240 ∷ 3 ∷ replicate 11 0; labels = replicate 16 lowest };
-      memory =
-          record {
-            values = wordOf 18 1 2 (3 * 2 ^ 12 + 4 * 2 ^ 8) ∷ w ∷ replicate 6 0;
-            labels = replicate 8 lowest;
-          };
+      registers = record { values = 0 ∷ r1 ∷ r2 ∷ r3 ∷ r4 ∷ replicate 11 0; labels = replicate 16 lowest };
+      memory = record { values = first ∷ second ∷ replicate 6 0; labels = replicate 8 lowest };
     }
+
+-- ---- upcalls
+
+-- Register 1 holds the ticks of the upcall, registers 2 and 3 its pair, register 4 its return pc 3. The program is the
+-- upcall and then the word given.
+abbrev pub trial : ℕ → ℕ → State
+trial ticks w = machine ticks 240 240 3 (wordOf 18 1 2 (3 * 2 ^ 12 + 4 * 2 ^ 8)) w
 
 -- So many steps at the most, until no call is open.
 abbrev pub untilClosed : ℕ → State → State
@@ -66,9 +69,17 @@ spin = wordOf 11 0 0 1
 abbrev pub stop : ℕ
 stop = wordOf 22 0 0 0
 
+-- ---- divisions
+
+-- The op of that number, done at clock 10 with x in register 1 and y in register 2, leaves v in register 3 at clock 44.
+abbrev pub divides : ℕ → ℕ → ℕ → ℕ → Bool
+divides op x y v =
+    let s = step (machine x y 0 0 (wordOf op 3 1 (2 * 2 ^ 12)) 0) in
+    eqb (valueAt s (register 3)) v && eqb (s .control .clock) 44 && eqb (s .control .pc) 1
+
 -- ---- the table
 
--- The starred facts.
+-- The starred facts, and behind them those of divisions.
 abbrev pub facts : List Bool
 facts =
     -- 255 to 15 flows; 255 to 0 doesn't
@@ -102,6 +113,11 @@ facts =
     -- unused bits are ignored: all set in op 19, in op 22
     ∷ backAt 20 (end + (2 ^ 24 - 1)) 1 33
     ∷ backAt 20 (stop + (2 ^ 24 - 1)) 3 33
+    -- 17 by 5 is 3, and 2 are left; 17 by 0 is 2^32 - 1, and 17 are left
+    ∷ divides 23 17 5 3
+    ∷ divides 24 17 5 2
+    ∷ divides 23 17 0 (2 ^ 32 - 1)
+    ∷ divides 24 17 0 17
     ∷ []
 
 -- Every test of a list passes.

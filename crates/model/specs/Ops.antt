@@ -12,7 +12,7 @@ use Rattle.model.specs.declared.Pair.{Pair}
 use Rattle.model.specs.declared.CallGate.{CallGate}
 use Rattle.model.specs.Record.{State, Location, register, word, valueAt, labelAt, isEmpty, isGate, pairOf, newest, inUpcall}
 use Rattle.model.specs.WellFormed.{isValid}
-use Rattle.model.specs.Word.{Arithmetic, add, subtract, and, or, xor, less, multiply, Comparison, equal, below, Rule, raise, relabel, Op, immediate, arithmetic, load, store, branch, jump, readClock, setLabel, setPair, upcall, endUpcall, gateCall, gateReturn, halt, aField, bField, cField, dField, nField, compute}
+use Rattle.model.specs.Word.{Arithmetic, add, subtract, and, or, xor, less, multiply, divide, remainder, Comparison, equal, below, Rule, raise, relabel, Op, immediate, arithmetic, load, store, branch, jump, readClock, setLabel, setPair, upcall, endUpcall, gateCall, gateReturn, halt, aField, bField, cField, dField, nField, compute}
 
 -- ---- effects
 
@@ -80,7 +80,7 @@ significantBits v = 32 - leadingZeros 32 v
 unfoldable pub multiplyTicks : Bool → ℕ → ℕ
 multiplyTicks visible v = cond visible (2 + (significantBits v + 3) / 4) 10
 
--- The ticks of ops 2 to 8: 1, but for op 8.
+-- The ticks of the arithmetic ops. A division takes as long whoever may see its operands.
 abbrev pub arithmeticTicks : Arithmetic → Bool → ℕ → ℕ
 arithmeticTicks add visible v = 1
 arithmeticTicks subtract visible v = 1
@@ -89,6 +89,8 @@ arithmeticTicks or visible v = 1
 arithmeticTicks xor visible v = 1
 arithmeticTicks less visible v = 1
 arithmeticTicks multiply visible v = multiplyTicks visible v
+arithmeticTicks divide visible v = 34
+arithmeticTicks remainder visible v = 34
 
 -- Ops 11 and 12: Ra = Rb, Ra < Rb unsigned.
 abbrev pub holds : Comparison → ℕ → ℕ → Bool

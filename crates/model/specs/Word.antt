@@ -7,7 +7,7 @@ use mathlib.Core.Bool.{cond}
 use mathlib.Core.List.{List, [], _∷_}
 use mathlib.Core.Option.{Option, none}
 use lib.Bits.{bitAnd, bitOr, bitXor}
-use lib.Dec.{ltb}
+use lib.Dec.{ltb, eqb}
 use lib.ListN.{getElem?}
 
 -- The op's number.
@@ -34,9 +34,9 @@ cField w = nField w / 2 ^ 12
 unfoldable pub dField : ℕ → ℕ
 dField w = nField w / 2 ^ 8 % 2 ^ 4
 
--- Ops 2 to 8.
+-- Ops 2 to 8, and the two divisions that document 01 does not have: 23, the quotient, and 24, the remainder.
 pub data Arithmetic : Type 0 where
-  add subtract and or xor less multiply : Arithmetic
+  add subtract and or xor less multiply divide remainder : Arithmetic
 
 -- Ops 11 and 12.
 pub data Comparison : Type 0 where
@@ -56,7 +56,7 @@ pub data Op : Type 0 where
   setLabel : Rule → Op
   setPair upcall endUpcall gateCall gateReturn halt : Op
 
--- The ops in the order of their numbers, from 1 to 22.
+-- The ops in the order of their numbers, from 1 to 24.
 abbrev pub ops : List Op
 ops =
     immediate
@@ -81,6 +81,8 @@ ops =
     ∷ gateCall
     ∷ gateReturn
     ∷ halt
+    ∷ arithmetic divide
+    ∷ arithmetic remainder
     ∷ []
 
 -- The op of a number, or none where it is unknown.
@@ -88,7 +90,8 @@ unfoldable pub decode : ℕ → Option Op
 decode zero = none
 decode (suc k) = getElem? ops k
 
--- What ops 2 to 8 compute. Add, subtract and multiply keep the low 32 bits.
+-- What they compute. Add, subtract and multiply keep the low 32 bits. A divisor of 0 gives 2^32 - 1 for the quotient and
+-- the dividend for the remainder, as RISC-V has it.
 unfoldable pub compute : Arithmetic → ℕ → ℕ → ℕ
 compute add x y = (x + y) % 2 ^ 32
 compute subtract x y = (x + (2 ^ 32 - y)) % 2 ^ 32
@@ -97,3 +100,5 @@ compute or x y = bitOr x y
 compute xor x y = bitXor x y
 compute less x y = cond (ltb x y) 1 0
 compute multiply x y = x * y % 2 ^ 32
+compute divide x y = cond (eqb y 0) (2 ^ 32 - 1) (x / y)
+compute remainder x y = cond (eqb y 0) x (x % y)

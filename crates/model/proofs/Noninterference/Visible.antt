@@ -15,11 +15,12 @@ use Rattle.labels.specs.Label.{flows}
 use Rattle.labels.proofs.Laws.{join-flows}
 use Rattle.model.specs.declared.Control.{Control}
 use Rattle.model.specs.Record.{State, Location, register, word, valueAt, labelAt, inUpcall}
-use Rattle.model.specs.Word.{Arithmetic, add, subtract, and, or, xor, less, multiply, Op, immediate, arithmetic, load, store, branch, jump, readClock, setLabel, setPair, upcall, endUpcall, gateCall, gateReturn, halt, aField, bField, cField, dField, nField, decode, opField}
+use Rattle.model.specs.Word.{Arithmetic, add, subtract, and, or, xor, less, multiply, divide, remainder, Op, immediate, arithmetic, load, store, branch, jump, readClock, setLabel, setPair, upcall, endUpcall, gateCall, gateReturn, halt, aField, bField, cField, dField, nField, decode, opField}
 use Rattle.model.specs.Ops.{Write, nothing, value, label, write, goto, enter, openUpcall, openGate, closeGate, stop, Effect, does, ends, Row, row, noGate, newPairAllowed, mayUpcall, mayCallGate, mayReturn, multiplyTicks, arithmeticTicks, Rb, gate, table}
 use Rattle.model.specs.Step.{Fetched, failed, fetched, known, fetchAllowed, fetch, Decision, rest, spend, stall, close, carry, endTick, finish, fault, attempt, inTime, plan, beyondLimit, inLimit, running, decide, causeAllowed, causeWrite, writeOf, written, withControl, changed, controlAfter, apply, step}
 use Rattle.model.specs.Seen.{within, exists}
 use Rattle.model.specs.Noninterference.{SameSetting, StepProvisos, downgrades}
+use Rattle.model.proofs.Division.{division-ticks}
 use Rattle.model.proofs.Truth.{either, clash, and-iff, same-choice}
 use Rattle.model.proofs.Writes.{same, label-after-label}
 use Rattle.model.proofs.Ready.{_⊑_, Ready}
@@ -328,7 +329,7 @@ module _ {ℓ : ℕ} {c : Control} {a b : State} (h : Together ℓ c a b) where
   multiply-same true v′ x x′ e f = rw (← e, f refl)
   multiply-same false v′ x x′ e f = ap (λ (b : Bool). multiplyTicks b x′) e
 
-  -- The ticks of ops 2 to 8.
+  -- The ticks of the arithmetic ops.
   ticks-same : (f : Arithmetic) (v v′ : Bool) (x x′ : ℕ) → v ≡ v′ → (v ≡ true → x ≡ x′)
       → arithmeticTicks f v x ≡ arithmeticTicks f v′ x′
   ticks-same add v v′ x x′ e g = refl
@@ -338,6 +339,8 @@ module _ {ℓ : ℕ} {c : Control} {a b : State} (h : Together ℓ c a b) where
   ticks-same xor v v′ x x′ e g = refl
   ticks-same less v v′ x x′ e g = refl
   ticks-same multiply v v′ x x′ e g = multiply-same v v′ x x′ e g
+  ticks-same divide v v′ x x′ e g = division-ticks v x .0 ∙ sym (division-ticks v′ x′ .0)
+  ticks-same remainder v v′ x x′ e g = division-ticks v x .1 ∙ sym (division-ticks v′ x′ .1)
 
   -- Rows that are one where their check passes and they show, the other way round.
   row-back : (w : ℕ) (op : Op) → table (withControl b c) w op .check ≡ true → Shows ℓ (withControl b c) (table (withControl b c) w op .effect)
