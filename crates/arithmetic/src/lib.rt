@@ -1,11 +1,11 @@
-// What ops 2 to 8 compute from two registers, and how many ticks they take.
+// What the arithmetic ops compute from two registers, and how many ticks they take.
 ghost use Prim.Native.Nat.{_≤_};
 ghost use mathlib.Core.Path.{_≡_};
-ghost use Rattle.model.specs.Word.{compute, add, subtract, less as lessThan, multiply};
+ghost use Rattle.model.specs.Word.{compute, add, subtract, less as lessThan, multiply, divide, remainder as left};
 ghost use Rattle.model.specs.Ops.{multiplyTicks, arithmeticTicks};
 ghost use Rattle.arithmetic.specs.Arithmetic.{arithmeticOf};
 
-// The ops 2 to 8.
+// The ops 2 to 8, 23 and 24.
 pub enum Arithmetic {
     Add,
     Subtract,
@@ -14,7 +14,15 @@ pub enum Arithmetic {
     Xor,
     Less,
     Multiply,
+    Divide,
+    Remainder,
 }
+
+// The quotient where the divisor is 0: every bit is set.
+const NO_QUOTIENT: u32 = 4294967295;
+
+// The ticks of a division, whoever may see its operands.
+const DIVISION_TICKS: u32 = 34;
 
 // 1 if x is below y, else 0.
 fn less(x: u32, y: u32) -> u32
@@ -44,6 +52,20 @@ fn product(x: u32, y: u32) -> u32
     ((x as u64) * (y as u64) % 4294967296) as u32
 }
 
+// How often y goes into x.
+fn quotient(x: u32, y: u32) -> u32
+    ensures { λ r. ⌜ r ≡ compute divide x y ⌝ }
+{
+    if y == 0 { NO_QUOTIENT } else { x / y }
+}
+
+// What is then left of x: all of it where y is 0.
+fn remainder(x: u32, y: u32) -> u32
+    ensures { λ r. ⌜ r ≡ compute left x y ⌝ }
+{
+    if y == 0 { x } else { x % y }
+}
+
 // The ticks of op 8 at the factor y.
 fn multiply_ticks(visible: bool, y: u32) -> u32
     ensures { λ r. ⌜ (r ≡ multiplyTicks visible y) × (1 ≤ r) × (r ≤ 10) ⌝ }
@@ -67,12 +89,14 @@ pub fn compute(f: Arithmetic, x: u32, y: u32) -> u32
         Arithmetic::Xor => x ^ y,
         Arithmetic::Less => less(x, y),
         Arithmetic::Multiply => product(x, y),
+        Arithmetic::Divide => quotient(x, y),
+        Arithmetic::Remainder => remainder(x, y),
     }
 }
 
 // Its ticks at the second operand y, where both operands' labels flow to the timing label or not.
 pub fn ticks_of(f: Arithmetic, visible: bool, y: u32) -> u32
-    ensures { λ r. ⌜ (r ≡ arithmeticTicks (arithmeticOf f) visible y) × (r ≤ 10) ⌝ }
+    ensures { λ r. ⌜ (r ≡ arithmeticTicks (arithmeticOf f) visible y) × (r ≤ 34) ⌝ }
 {
     match f {
         Arithmetic::Add => 1,
@@ -82,5 +106,7 @@ pub fn ticks_of(f: Arithmetic, visible: bool, y: u32) -> u32
         Arithmetic::Xor => 1,
         Arithmetic::Less => 1,
         Arithmetic::Multiply => multiply_ticks(visible, y),
+        Arithmetic::Divide => DIVISION_TICKS,
+        Arithmetic::Remainder => DIVISION_TICKS,
     }
 }

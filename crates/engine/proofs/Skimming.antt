@@ -1,26 +1,27 @@
 -- Laws about common ops done for as long as they come, and one step more: the steps that are left are those of the state
 -- where they end, and the hot loop stops where the next step does no common op.
 -- Assumes nothing.
-use Prim.Native.Nat.{ℕ, zero, suc, _-_, _≤_, _<_}
+use Prim.Native.Nat.{ℕ, zero, suc, _+_, _-_, _≤_, _<_}
 use mathlib.Core.Path.{_≡_, refl, sym, ap, _∙_}
-use mathlib.Core.Logic.{_⊎_, ⊎-elim}
-use mathlib.Core.Bool.{Bool, true, false, _&&_, _||_, cond, and-false}
+use mathlib.Core.Logic.{inl, inr, ⊎-elim}
+use mathlib.Core.Bool.{Bool, true, false, and-false}
 use mathlib.Core.List.{List, [], _∷_}
 use native.Mathlib.Omega.{arith}
 use lib.Dec.{ltb, eqb}
-use lib.ListN.{drop, getElem?}
-use borrow.Author.Tests.{ne-eqb, eq-eqb, eqb-true, eqb-false, le-ltb}
+use lib.ListN.{take, drop, getElem?}
+use borrow.Author.Tests.{ne-eqb, eq-eqb, eqb-true, eqb-false, le-ltb, ltb-true, ltb-false}
 use Rattle.model.specs.Record.{State, inUpcall}
 use Rattle.model.specs.Word.{Op, immediate, arithmetic, load, store, branch, jump, readClock, setLabel, setPair, upcall, endUpcall, gateCall, gateReturn, halt, ops, decode, opField}
-use Rattle.model.specs.Step.{Fetched, failed, fetched, Decision, rest, spend, stall, close, carry, isCarried, known, fetch, plan, beyondLimit, inLimit, running, decide, step, steps}
+use Rattle.model.specs.Step.{Fetched, failed, fetched, Decision, close, isCarried, known, fetch, beyondLimit, inLimit, running, decide, step, steps}
 use Rattle.model.specs.Certificate.{isRelabelling}
-use Rattle.model.proofs.Truth.{choice, either, clash, or-iff}
+use Rattle.model.proofs.Truth.{choice, either, clash}
 use Rattle.engine.specs.declared.steps.common.Stop.{Stop}
 use Rattle.engine.specs.declared.steps.common.Stop.the-variants.{Out, Late, Outside, Unreadable, Failed, Rest}
 use Rattle.engine.specs.Skim.{isCommonOp, fetchesCommon, isCommon, Skim, skim, fetchesRelabelling, ends, stride}
-use Rattle.engine.specs.Inner.Common.{lateOf, Timed, Stopped}
+use Rattle.engine.specs.Inner.Common.{lateOf, Timed, Other, Stopped}
 use Rattle.engine.specs.Inner.Sprint.{Paused}
 use Rattle.engine.specs.Inner.Drive.{relabelsAt, endsAt}
+use Rattle.engine.proofs.Numbers.{beyond, past-ops}
 use Rattle.engine.proofs.Turns.{decides}
 
 -- So many steps are those that are left after the common ops.
@@ -45,27 +46,36 @@ abbrev NoneCommon : List Op → Type 0
 NoneCommon [] = Unit {0}
 NoneCommon (op ∷ more) = (isCommonOp op ≡ false) × NoneCommon more
 
--- An op of such a list, or past its end.
-at-uncommon : (w k : ℕ) (xs : List Op) → NoneCommon xs → fetchesCommon (known w (getElem? xs k)) ≡ false
-at-uncommon w zero [] h = refl
-at-uncommon w (suc k) [] h = refl
-at-uncommon w zero (op ∷ xs) h = h .0
-at-uncommon w (suc k) (op ∷ xs) h = at-uncommon w k xs (h .1)
+-- One of the first m ops of a list, none of which is common.
+first-uncommon : (w m k : ℕ) (xs : List Op) → k < m → NoneCommon (take m xs) → fetchesCommon (known w (getElem? xs k)) ≡ false
+first-uncommon w zero k xs l h = absurd (omega arith)
+first-uncommon w (suc m) zero [] l h = refl
+first-uncommon w (suc m) (suc k) [] l h = refl
+first-uncommon w (suc m) zero (op ∷ xs) l h = h .0
+first-uncommon w (suc m) (suc k) (op ∷ xs) l h = first-uncommon w m k xs (omega arith) (h .1)
 
--- An op behind the first n, none of which is common from there on.
-behind-uncommon : (w n k : ℕ) (xs : List Op) → n ≤ k → NoneCommon (drop n xs) → fetchesCommon (known w (getElem? xs k)) ≡ false
-behind-uncommon w zero k xs l h = at-uncommon w k xs h
-behind-uncommon w (suc n) k [] l h = at-uncommon w k [] tt
-behind-uncommon w (suc n) zero (op ∷ xs) l h = absurd (omega arith)
-behind-uncommon w (suc n) (suc k) (op ∷ xs) l h = behind-uncommon w n k xs (omega arith) h
+-- One of the m ops behind the first n.
+behind-uncommon : (w n m k : ℕ) (xs : List Op) → n ≤ k → k < n + m → NoneCommon (take m (drop n xs))
+    → fetchesCommon (known w (getElem? xs k)) ≡ false
+behind-uncommon w zero m k xs l u h = first-uncommon w m k xs (omega arith) h
+behind-uncommon w (suc n) m zero xs l u h = absurd (omega arith)
+behind-uncommon w (suc n) m (suc k) [] l u h = refl
+behind-uncommon w (suc n) m (suc k) (op ∷ xs) l u h = behind-uncommon w n m k xs (omega arith) (omega arith) h
 
--- A number beyond the common ops has no common op.
-uncommon : (w n : ℕ) → (n ≡ 0) ⊎ (14 < n) → fetchesCommon (known w (decode n)) ≡ false
+-- A number of no common op has none.
+uncommon : (w n : ℕ) → Other n → fetchesCommon (known w (decode n)) ≡ false
 unfolding decode
 uncommon w zero h = refl
-uncommon w (suc n) h =
-    behind-uncommon w 14 n ops (⊎-elim (λ (e : suc n ≡ 0). omega arith) (λ (l : 14 < suc n). omega arith) h)
-    (refl, (refl, (refl, (refl, (refl, (refl, (refl, (refl, tt))))))))
+uncommon w (suc n) (inl e) = absurd (omega (arith, e))
+uncommon w (suc n) (inr h) =
+    ⊎-elim
+    (λ (e : ltb (suc n) 23 ≡ true).
+    let l : suc n < 23 = ltb-true (suc n) 23 e in
+    behind-uncommon w 14 8 n ops (omega (arith, h .0)) (omega arith) (refl, (refl, (refl, (refl, (refl, (refl, (refl, (refl, tt)))))))))
+    (λ (e : ltb (suc n) 23 ≡ false).
+    let l : 23 ≤ suc n = ltb-false (suc n) 23 e in
+    rw (past-ops (suc n) (beyond (beyond l (h .1)) (h .2))))
+    (either (ltb (suc n) 23))
 
 -- A reason to stop: the next step does no common op.
 stopped-uncommon : {up : Bool} {deadline : ℕ} (stop : Stop) (s : State) → Timed s up deadline → Stopped stop s → isCommon s ≡ false
@@ -158,7 +168,7 @@ relabels-number w (suc k) =
     (λ (e : eqb (suc k) 16 ≡ true). let i : k ≡ 15 = omega (arith, eqb-true (suc k) 16 e) in rw i)
     (λ (e : eqb (suc k) 16 ≡ false).
     let d : suc k ≡ 16 → ⊥ = eqb-false (suc k) 16 e in
-    e ∙ sym (elsewhere-keeping w 15 k ops (refl, (refl, (refl, (refl, (refl, (refl, (refl, (refl, (refl, (refl, (refl, (refl, (refl, (refl, (refl, (refl, (refl, (refl, (refl, (refl, (refl, tt))))))))))))))))))))) (λ i. d (ap suc i))))
+    e ∙ sym (elsewhere-keeping w 15 k ops (refl, (refl, (refl, (refl, (refl, (refl, (refl, (refl, (refl, (refl, (refl, (refl, (refl, (refl, (refl, (refl, (refl, (refl, (refl, (refl, (refl, (refl, (refl, tt))))))))))))))))))))))) (λ i. d (ap suc i))))
     (either (eqb (suc k) 16))
 
 -- A reason to stop: whether the next word relabels.

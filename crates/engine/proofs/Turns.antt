@@ -1,11 +1,11 @@
 -- Laws about a turn of the hot loop: when a step of the model is the change that a common op carries out, and what the
 -- step decides where the op would finish past the deadline.
 -- Assumes nothing.
-use Prim.Native.Nat.{ℕ, zero, suc, _+_, _≤_, _<_}
+use Prim.Native.Nat.{ℕ, _+_, _≤_, _<_}
 use mathlib.Core.Path.{_≡_, refl, sym, ap, _∙_, subst}
-use mathlib.Core.Bool.{Bool, true, false, not, _&&_, _||_, cond, true≢false, false≢true}
+use mathlib.Core.Bool.{Bool, true, false, _&&_, _||_, cond, true≢false, false≢true}
 use mathlib.Core.List.{List}
-use mathlib.Core.Logic.{_⊎_, inl, inr}
+use mathlib.Core.Logic.{inr}
 use mathlib.Core.Option.{some}
 use native.Mathlib.Omega.{arith}
 use borrow.Author.Tests.{ltb-true, ltb-false, leb-true, leb-false, lt-ltb, le-ltb, eq-eqb, ne-eqb}
@@ -16,8 +16,7 @@ use Rattle.model.specs.Numbers.{mostTicks}
 use Rattle.model.specs.Record.{State, register, word, valueAt, labelAt, inUpcall}
 use Rattle.model.specs.Word.{Arithmetic, Comparison, Op, immediate, arithmetic, load, store, branch, jump, readClock, setLabel, setPair, upcall, endUpcall, gateCall, gateReturn, halt, opField, aField, bField, nField, decode}
 use Rattle.model.specs.Ops.{writable, holds, Write, nothing, value, label, Change, write, goto, enter, openUpcall, openGate, closeGate, stop, Effect, does, ends, Row, row, strictRow, table}
-use Rattle.model.specs.Step.{spend, close, carry, fetch, fetched, known, endTick, finish, attempt, inTime, plan, beyondLimit, inLimit, running, decide, written, writeOf, changed, controlAfter, apply, step}
-use Rattle.model.proofs.Truth.{either}
+use Rattle.model.specs.Step.{Fetched, spend, close, carry, fetch, fetched, known, endTick, finish, attempt, inTime, plan, beyondLimit, inLimit, running, decide, written, writeOf, changed, controlAfter, apply, step}
 use Rattle.model.proofs.Legal.{ticks-long}
 use Rattle.engine.specs.declared.steps.common.Stop.{Stop}
 use Rattle.engine.specs.declared.steps.common.Stop.the-variants.{Late, Failed}
@@ -25,8 +24,8 @@ use Rattle.engine.specs.declared.steps.common.Turn.{Turn}
 use Rattle.engine.specs.declared.steps.common.Context.{Context}
 use Rattle.engine.specs.Skim.{isCommonOp, fetchesCommon, isCommon}
 use Rattle.engine.specs.Calls.{deadlineOf}
-use Rattle.engine.specs.Inner.Common.{going, stopping, timed, gone, Assigned, Combined, ReadWord, Stored, Gone, moving, Timed, lateOf, Stopped, Turned}
-use Rattle.engine.proofs.Numbers.{below-word, NoneBehind, behind}
+use Rattle.engine.specs.Inner.Common.{going, stopping, timed, gone, Assigned, Combined, ReadWord, Stored, Gone, moving, Timed, lateOf, Other, Stopped, Turned}
+use Rattle.engine.proofs.Numbers.{below-word, NoneFrom, behind}
 
 -- ---- truth values
 
@@ -335,7 +334,13 @@ valueOf s k = getD (s .registers .values) k 0
 abbrev labelOf : State → ℕ → ℕ
 labelOf s k = getD (s .registers .labels) k 0
 
--- Ops 2 to 8.
+-- An arithmetic op puts what it computes, where its check passes.
+pub assigned-if : (ok : Bool) {before after : List ℕ} {a v u ticks pc clock deadline : ℕ} {r : Turn} → (ok ≡ true → v ≡ u)
+    → Assigned before a ok v ticks pc clock deadline r after → Assigned before a ok u ticks pc clock deadline r after
+assigned-if true f e = record { turn = e .turn; values = rw (← f refl) (e .values) }
+assigned-if false f e = record { turn = e .turn; values = e .values }
+
+-- The arithmetic ops.
 pub arithmetic-turn : {s : State} {up : Bool} {w : ℕ} {o : Arithmetic} (c : Context) → Timed s up (c .deadline)
     → fetch s ≡ fetched w (arithmetic o) → c .p ≡ s .control .pair .pc → c .t ≡ s .control .pair .timing
     → {r : Turn} {values words : List ℕ}
@@ -392,10 +397,14 @@ module _ {s : State} {up : Bool} {deadline w a b : ℕ} (h : Timed s up deadline
 
 -- ---- the other ops
 
--- A number that is none of 1 to 14 is 0 or above 14.
-pub no-common : (n : ℕ) → NoneBehind 0 14 n → (n ≡ 0) ⊎ (14 < n)
-no-common zero h = inl refl
-no-common (suc n) h = inr (behind 0 14 (omega arith) h)
+-- A number that is none of 0 to 14, 23 and 24 is that of another op.
+pub no-common : (n : ℕ) → (NoneFrom 0 15 n × (n ≡ 23 → ⊥)) × (n ≡ 24 → ⊥) → Other n
+no-common n h = inr (behind 0 15 (omega arith) (h .0 .0), h .0 .1, h .1)
+
+-- A word without an op is fetched as well as one in which nothing else stands.
+pub no-op : {f : Fetched} {n : ℕ} (w : ℕ) → f ≡ known w (decode (opField w)) → n ≡ opField w → n ≡ 0 → f ≡ known 0 (decode (opField 0))
+unfolding decode opField
+no-op w f q e = f ∙ ap (λ (k : ℕ). known w (decode k)) (sym q ∙ e)
 
 -- A turn that leaves the state.
 pub stays : (s : State) (deadline : ℕ) (why : Stop) {r : Turn} → r ≡ stopping why (s .control .pc) (s .control .clock) → Stopped why s

@@ -1,33 +1,33 @@
 -- Laws about what is to be done where the hot loop stopped: the limit, and the ops 15 to 22.
 -- Assumes nothing.
-use Prim.Native.Nat.{ℕ, zero, suc, _+_, _≤_, _<_}
+use Prim.Native.Nat.{ℕ, _+_, _≤_, _<_}
 use mathlib.Core.Path.{_≡_, refl, sym, ap, _∙_, subst}
 use mathlib.Core.Bool.{Bool, true, false, _&&_, _||_, cond, false≢true}
-use mathlib.Core.List.{List, [], _∷_}
-use mathlib.Core.Logic.{_⊎_, ⊎-elim}
+use mathlib.Core.List.{List}
+use mathlib.Core.Logic.{inl, inr, ⊎-elim}
 use mathlib.Core.Option.{Option, none, some}
 use native.Mathlib.Omega.{arith}
-use borrow.Author.Tests.{ltb-true, lt-ltb, le-ltb, eq-eqb, ne-eqb}
-use lib.Dec.{ltb, eqb}
-use lib.ListN.{length, getElem?}
+use borrow.Author.Tests.{ltb-true, ltb-false, lt-ltb, le-ltb, eq-eqb, ne-eqb}
+use lib.Dec.{ltb, eqb, lit≤}
 use Rattle.labels.specs.Label.{labelCount, flows, validPair}
 use Rattle.model.specs.declared.CallGate.{CallGate}
 use Rattle.model.specs.declared.Call.{Call}
 use Rattle.model.specs.Numbers.{mostWords}
 use Rattle.model.specs.Record.{State, isUpcall, endTickOf, newest, inUpcall}
-use Rattle.model.specs.Word.{Op, endUpcall, halt, ops, opField, decode}
+use Rattle.model.specs.Word.{Op, endUpcall, halt, opField, decode}
 use Rattle.model.specs.Ops.{Change, write, goto, nothing, does, row, isLabel, table}
 use Rattle.model.specs.Step.{Fetched, fetched, Decision, spend, stall, close, carry, known, fetch, endTick, finish, fault, attempt, plan, beyondLimit, inLimit, running, decide}
+use Rattle.model.proofs.Truth.{either, and-iff}
 use Rattle.engine.specs.declared.steps.common.Stop.{Stop}
 use Rattle.engine.specs.declared.steps.common.Stop.the-variants.{Out, Late, Outside, Unreadable, Failed, Rest}
 use Rattle.engine.specs.declared.steps.rest.Act.{Act}
 use Rattle.engine.specs.declared.steps.rest.Act.the-variants.{Pass, Halt}
 use Rattle.engine.specs.declared.steps.rest.Verdict.{Verdict}
 use Rattle.engine.specs.declared.steps.rest.Verdict.the-variants.{Spend, Stall, Close, Carry}
-use Rattle.engine.proofs.Numbers.{NoneBehind, behind}
+use Rattle.engine.proofs.Numbers.{NoneFrom, beyond, behind, past-ops}
 use Rattle.engine.proofs.Turns.{cond-same}
-use Rattle.engine.specs.Inner.Common.{Stopped}
-use Rattle.engine.specs.Inner.Rest.{changeOf, decisionOf, allowed, Acts, Held, Short, Timely, Limited, stoppedAt, Other, Ready, Rested, planFor, Planned, Decided}
+use Rattle.engine.specs.Inner.Common.{Other, Stopped}
+use Rattle.engine.specs.Inner.Rest.{changeOf, decisionOf, allowed, Acts, Held, Short, Timely, Limited, stoppedAt, Few, Ready, Rested, planFor, Planned, Decided}
 
 -- ---- truth values
 
@@ -86,62 +86,60 @@ module _ {d : Verdict} {clock limit e : ℕ} where
   unfolding inLimit beyondLimit
   limited-spend q = record { is = λ s c l t. rw q (sym (cond-same (ltb (s .fixed .limit) (finish s spend) || eqb (s .control .clock) (s .fixed .limit)) spend)); admits = λ pc h. tt }
 
-  module _ (n : clock ≡ limit → ⊥) where
-    pub limited-stall : {why : ℕ} → clock ≤ limit → d ≡ Stall why → Limited d clock limit e (Stall why)
-    unfolding finish
-    limited-stall {why} h q =
-        record {
-          is = λ s c l t. rw q (in-limit-kept s (stall why) (λ x. n (sym c ∙ x ∙ l)) (omega (arith, c, l)));
-          admits = λ pc x. tt;
-        }
+  pub limited-stall : {why : ℕ} → clock < limit → d ≡ Stall why → Limited d clock limit e (Stall why)
+  unfolding finish
+  limited-stall {why} n q =
+      record {
+        is = λ s c l t. rw q (in-limit-kept s (stall why) (λ x. omega (arith, n, c, l, x)) (omega (arith, c, l)));
+        admits = λ pc x. tt;
+      }
 
-    pub limited-close : {cause : ℕ} → e < limit → d ≡ Close cause → Limited d clock limit e (Close cause)
-    unfolding finish
-    limited-close {cause} h q =
-        record {
-          is = λ s c l t. rw q (in-limit-kept s (close cause) (λ x. n (sym c ∙ x ∙ l)) (omega (arith, l, t)));
-          admits = λ pc x. h;
-        }
+  pub limited-close : {cause : ℕ} → (ltb clock limit && ltb e limit) ≡ true → d ≡ Close cause → Limited d clock limit e (Close cause)
+  unfolding finish
+  limited-close {cause} b q =
+      record {
+        is = λ s c l t. rw q (in-limit-kept s (close cause) (λ x. omega (arith, early, c, l, x)) (omega (arith, before, l, t)));
+        admits = λ pc x. before;
+      }
+    where
+      early : clock < limit
+      early = ltb-true clock limit (and-iff (ltb clock limit) (ltb e limit) .0 b .0)
 
-    pub limited-carry : {k : ℕ} {act : Act} → clock + k ≤ limit → d ≡ Carry k act → Limited d clock limit e (Carry k act)
-    unfolding finish
-    limited-carry {k} {act} h q =
-        record {
-          is = λ s c l t. rw q (in-limit-kept s (carry k (changeOf act)) (λ x. n (sym c ∙ x ∙ l)) (omega (arith, c, l)));
-          admits = λ pc x. (h, (rw q at x));
-        }
+      before : e < limit
+      before = ltb-true e limit (and-iff (ltb clock limit) (ltb e limit) .0 b .1)
+
+  pub limited-carry : {k : ℕ} {act : Act} → 1 ≤ k → clock + k ≤ limit → d ≡ Carry k act → Limited d clock limit e (Carry k act)
+  unfolding finish
+  limited-carry {k} {act} m h q =
+      record {
+        is = λ s c l t. rw q (in-limit-kept s (carry k (changeOf act)) (λ x. omega (arith, m, h, c, l, x)) (omega (arith, c, l)));
+        admits = λ pc x. (h, (rw q at x));
+      }
 
   pub limited-past : {cause : ℕ} → limit ≤ e → d ≡ Close cause → Limited d clock limit e Spend
   unfolding finish
   limited-past {cause} h q = record { is = λ s c l t. rw q (spent-over s (close cause) (omega (arith, l, t))); admits = λ pc x. tt }
+
+  -- A close that comes too late, or at the limit.
+  pub limited-barred : {cause : ℕ} → clock ≤ limit → (ltb clock limit && ltb e limit) ≡ false → d ≡ Close cause → Limited d clock limit e Spend
+  limited-barred h b q =
+      ⊎-elim (λ (x : ltb clock limit ≡ true). limited-past (ltb-false e limit (rw x at b)) q)
+      (λ (x : ltb clock limit ≡ false). limited-at (omega (arith, h, ltb-false clock limit x))) (either (ltb clock limit))
 
   pub limited-over : {k : ℕ} {act : Act} → limit < clock + k → d ≡ Carry k act → Limited d clock limit e Spend
   unfolding finish
   limited-over {k} {act} h q = record { is = λ s c l t. rw q (spent-over s (carry k (changeOf act)) (omega (arith, c, l))); admits = λ pc x. tt }
 
 -- What is asked of a verdict, of its act.
-pub short-carry : {d : Verdict} {k : ℕ} {act : Act} → d ≡ Carry k act → Short d → k ≤ 10
+pub short-carry : {d : Verdict} {k : ℕ} {act : Act} → d ≡ Carry k act → Short d → Few k
 short-carry q h = rw q at h
 
 -- ---- the ops 15 to 22
 
--- Past the end of a list there is nothing.
-past-end {ℓ} : {A : Type ℓ} (k : ℕ) (xs : List A) → length xs ≤ k → getElem? xs k ≡ none
-past-end zero [] l = refl
-past-end (suc k) [] l = refl
-past-end zero (x ∷ xs) l = absurd (omega arith)
-past-end (suc k) (x ∷ xs) l = past-end k xs (omega arith)
-
--- A number past the last op is no op's.
-past-ops : (n : ℕ) → 22 < n → decode n ≡ none
-unfolding decode
-past-ops zero l = refl
-past-ops (suc n) l = past-end n ops (omega arith)
-
 -- A number that is no common op's, and none of 15 to 22.
-unknown-op : (n : ℕ) → (n ≡ 0) ⊎ (14 < n) → NoneBehind 14 8 n → decode n ≡ none
-unknown-op zero o h = unfold decode in refl
-unknown-op (suc n) o h = past-ops (suc n) (behind 14 8 (⊎-elim (λ q. absurd (omega arith)) (λ q. q) o) h)
+unknown-op : (n : ℕ) → Other n → NoneFrom 15 8 n → decode n ≡ none
+unknown-op n (inl e) h = unfold decode in rw e
+unknown-op n (inr o) h = past-ops n (beyond (beyond (behind 15 8 (o .0) h) (o .1)) (o .2))
 
 -- ---- what the newest call says of the state
 
@@ -206,7 +204,7 @@ pub record Looked (w pc : ℕ) (call : Call) (n : ℕ) (up : Bool) (end : ℕ) :
 module _ {w pc errorpc p t clock : ℕ} {call : Call} {count : ℕ} {gates : List CallGate} {values labels : List ℕ} {r : Verdict} {n : ℕ} {up : Bool} {end : ℕ} (l : Looked w pc call n up end) where
   -- An op that acts in so many ticks, where its check passes.
   pub rested-row : {k : ℕ} {op : Op} → n ≡ k → decode k ≡ some op → {check : Bool} {change : Change} {act : Act} {ticks : ℕ}
-      → Acts check change act → Timely up end clock ticks act r → ticks ≤ 10
+      → Acts check change act → Timely up end clock ticks act r → Few ticks
       → ((s : State) (limit : ℕ) → newest (stoppedAt s errorpc limit count gates pc p t clock values labels .control) ≡ call
       → table (stoppedAt s errorpc limit count gates pc p t clock values labels) w op ≡ row check (does change) ticks)
       → Rested w pc errorpc p t clock call count gates values labels r
@@ -246,7 +244,7 @@ module _ {w pc errorpc p t clock : ℕ} {call : Call} {count : ℕ} {gates : Lis
 
       few : (b : Bool) → Short (cond b (Close 1) (Carry 1 Pass))
       few true = tt
-      few false = omega arith
+      few false = (lit≤ tt, lit≤ tt)
 
   -- Op 22.
   pub rested-halt : n ≡ 22 → r ≡ cond up (Close 3) (Carry 1 Halt) → Rested w pc errorpc p t clock call count gates values labels r
@@ -269,10 +267,10 @@ module _ {w pc errorpc p t clock : ℕ} {call : Call} {count : ℕ} {gates : Lis
 
       few : (b : Bool) → Short (cond b (Close 3) (Carry 1 Halt))
       few true = tt
-      few false = omega arith
+      few false = (lit≤ tt, lit≤ tt)
 
   -- An unknown op.
-  pub rested-unknown : Other w → NoneBehind 14 8 n
+  pub rested-unknown : Other (opField w) → NoneFrom 15 8 n
       → (decisionOf r ≡ cond up (close 3) (cond (eqb pc errorpc) (stall 3) (carry 1 (goto errorpc)))) × Held r pc × Short r
       → Rested w pc errorpc p t clock call count gates values labels r
   rested-unknown o other q =
@@ -288,7 +286,7 @@ module _ {w pc errorpc p t clock : ℕ} {call : Call} {count : ℕ} {gates : Lis
       }
     where
       unknown : decode n ≡ none
-      unknown = unknown-op n (subst (λ (m : ℕ). (m ≡ 0) ⊎ (14 < m)) (sym (l .op)) o) other
+      unknown = unknown-op n (subst Other (sym (l .op)) o) other
 
 -- ---- the plan for a reason to stop
 
@@ -378,5 +376,5 @@ module _ {stop : Stop} {pc errorpc p t clock : ℕ} {call : Call} {count : ℕ} 
       }
 
 -- What is known of the word for a reason to stop.
-pub ready-rest : {stop : Stop} {pc w : ℕ} → stop ≡ Rest w → Ready stop pc → (pc < mostWords) × Other w
+pub ready-rest : {stop : Stop} {pc w : ℕ} → stop ≡ Rest w → Ready stop pc → (pc < mostWords) × Other (opField w)
 ready-rest q h = rw q at h

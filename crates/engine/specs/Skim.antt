@@ -8,7 +8,7 @@ use Rattle.model.specs.Word.{Op, immediate, arithmetic, load, store, branch, ju
 use Rattle.model.specs.Step.{Fetched, failed, fetched, fetch, isCarried, decide, step}
 use Rattle.model.specs.Certificate.{isRelabelling}
 
--- An op that only writes a value or goes on elsewhere: ops 1 to 14.
+-- An op that only writes a value or goes on elsewhere: ops 1 to 14, 23 and 24.
 abbrev pub isCommonOp : Op → Bool
 isCommonOp immediate = true
 isCommonOp (arithmetic f) = true

@@ -65,8 +65,8 @@ pub fn advance(
     start
 }
 
-// The common ops, 1 to 14, for as long as they come, and one step of what comes then; but so many steps at the most. It
-// stops before a word that relabels, unless that is the first: the step is then looked at before it is taken.
+// The common ops for as long as they come, and one step of what comes then; but so many steps at the most. It stops
+// before a word that relabels, unless that is the first: the step is then looked at before it is taken.
 pub fn stride(
     fixed: Fixed,
     start: Control,

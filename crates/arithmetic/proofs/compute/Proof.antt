@@ -38,6 +38,18 @@ enum-told-7 c = search needs
 product-requires : tie.Need-product-requires
 product-requires c κs = search needs
 
+enum-told-8 : tie.Need-enum-told-8
+enum-told-8 c = search needs
+
+quotient-requires : tie.Need-quotient-requires
+quotient-requires c κs = search needs
+
+enum-told-9 : tie.Need-enum-told-9
+enum-told-9 c = search needs
+
+remainder-requires : tie.Need-remainder-requires
+remainder-requires c κs = search needs
+
 returns : tie.Need-returns
 returns c = rw (c .before .enum-told .given .1) (c .plus .ensures)
 
@@ -62,6 +74,12 @@ returns-6 c = rw (c .before .enum-told6 .given .1) (c .less .ensures)
 returns-7 : tie.Need-returns-7
 returns-7 c = rw (c .before .enum-told7 .given .1) (c .product .ensures)
 
+returns-8 : tie.Need-returns-8
+returns-8 c = rw (c .before .enum-told8 .given .1) (c .quotient .ensures)
+
+returns-9 : tie.Need-returns-9
+returns-9 c = rw (c .before .enum-told9 .given .1) (c .remainder .ensures)
+
 pub compute-spec : {M : Type 1} → statement M
 compute-spec =
     tie.close
@@ -77,10 +95,16 @@ compute-spec =
     less-requires
     enum-told-7
     product-requires
+    enum-told-8
+    quotient-requires
+    enum-told-9
+    remainder-requires
     returns
     returns-2
     returns-3
     returns-4
     returns-5
     returns-6
-    returns-7)
+    returns-7
+    returns-8
+    returns-9)

@@ -1,5 +1,6 @@
 -- `arithmetic::ticks_of` meets its contract.
 -- Assumes nothing.
+use native.Mathlib.Omega.{arith}
 use borrow.Author.Needs.{needs}
 use Rattle.arithmetic.proofs.ticks_of.Statement.{statement}
 use Rattle.arithmetic.proofs.ticks_of.Tie as tie
@@ -25,6 +26,12 @@ enum-told-6 c = search needs
 enum-told-7 : tie.Need-enum-told-7
 enum-told-7 c = search needs
 
+enum-told-8 : tie.Need-enum-told-8
+enum-told-8 c = search needs
+
+enum-told-9 : tie.Need-enum-told-9
+enum-told-9 c = search needs
+
 multiply-ticks-requires : tie.Need-multiply-ticks-requires
 multiply-ticks-requires c κs = search needs
 
@@ -47,7 +54,13 @@ returns-6 : tie.Need-returns-6
 returns-6 c = search needs
 
 returns-7 : tie.Need-returns-7
-returns-7 c = (rw (c .before .enum-told7 .given .1) (c .multiply-ticks .ensures .0), c .multiply-ticks .ensures .2)
+returns-7 c = (rw (c .before .enum-told7 .given .1) (c .multiply-ticks .ensures .0), omega (arith, c .multiply-ticks .ensures .2))
+
+returns-8 : tie.Need-returns-8
+returns-8 c = search needs
+
+returns-9 : tie.Need-returns-9
+returns-9 c = search needs
 
 pub ticks-of-spec : {M : Type 1} → statement M
 ticks-of-spec =
@@ -61,10 +74,14 @@ ticks-of-spec =
     enum-told-6
     enum-told-7
     multiply-ticks-requires
+    enum-told-8
+    enum-told-9
     returns
     returns-2
     returns-3
     returns-4
     returns-5
     returns-6
-    returns-7)
+    returns-7
+    returns-8
+    returns-9)

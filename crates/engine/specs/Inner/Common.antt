@@ -48,7 +48,7 @@ pub record Assigned (before : List ℕ) (a : ℕ) (ok : Bool) (v ticks pc clock 
   pub turn : r ≡ timed ticks (pc + 1) pc clock deadline
   pub values : after ≡ cond (leb (clock + ticks) deadline) (cond (ok && writable a) (set before a v) before) before
 
--- Ops 2 to 8 at the word w: register a got what f computes from the registers b and c, as the model's row has it.
+-- An arithmetic op at the word w: register a got what f computes from the registers b and c, as the model's row has it.
 abbrev pub Combined : Arithmetic → List ℕ → List ℕ → Context → ℕ → ℕ → ℕ → Turn → List ℕ → Type 0
 Combined f before labels context w pc clock r after =
     let x = getD before (bField w) 0 in
@@ -107,11 +107,15 @@ pub record Timed (s : State) (up : Bool) (deadline : ℕ) : Type 0 where
 abbrev pub lateOf : State → Decision
 lateOf s = cond (inUpcall (s .control)) (close 2) spend
 
+-- The number of no common op: 0, 15 to 22, or above 24.
+abbrev pub Other : ℕ → Type 0
+Other n = (n ≡ 0) ⊎ ((14 < n) × (n ≡ 23 → ⊥) × (n ≡ 24 → ⊥))
+
 -- The word w is fetched, and its op is no common one.
 pub record Uncommon (s : State) (w : ℕ) : Type 0 where
   pub word : fetch s ≡ known w (decode (opField w))
   pub within : s .control .pc < s .fixed .size
-  pub op : (opField w ≡ 0) ⊎ (14 < opField w)
+  pub op : Other (opField w)
 
 -- A common op is tried that would finish past the deadline.
 pub record Overdue (s : State) : Type 0 where

@@ -3,7 +3,6 @@
 use Prim.Native.Nat.{ℕ, _+_, _≤_, _<_}
 use mathlib.Core.Path.{_≡_}
 use mathlib.Core.Bool.{Bool, _&&_, cond}
-use mathlib.Core.Logic.{_⊎_}
 use mathlib.Core.List.{List}
 use lib.Dec.{ltb}
 use lib.ListN.{getD}
@@ -21,7 +20,7 @@ use Rattle.engine.specs.declared.steps.rest.Act.{Act}
 use Rattle.engine.specs.declared.steps.rest.Act.the-variants.{Pass, Goto, SetLabel, Enter, OpenUpcall, OpenGate, CloseGate, Halt}
 use Rattle.engine.specs.declared.steps.rest.Verdict.{Verdict}
 use Rattle.engine.specs.declared.steps.rest.Verdict.the-variants.{Spend, Stall, Close, Carry}
-use Rattle.engine.specs.Inner.Common.{lateOf}
+use Rattle.engine.specs.Inner.Common.{lateOf, Other}
 
 -- The model's change that an act is.
 abbrev pub changeOf : Act → Change
@@ -59,12 +58,16 @@ Held (Stall why) pc = Unit
 Held (Close cause) pc = Unit
 Held (Carry ticks act) pc = Writes act pc
 
--- It takes few ticks.
+-- It takes a tick or more, and few.
+abbrev pub Few : ℕ → Type 0
+Few ticks = (1 ≤ ticks) × (ticks ≤ 34)
+
+-- The same of a verdict.
 abbrev pub Short : Verdict → Type 0
 Short Spend = Unit
 Short (Stall why) = Unit
 Short (Close cause) = Unit
-Short (Carry ticks act) = ticks ≤ 10
+Short (Carry ticks act) = Few ticks
 
 -- The same, and that it finishes by the limit.
 abbrev pub Admits : Verdict → ℕ → ℕ → ℕ → ℕ → Type 0
@@ -82,7 +85,7 @@ pub record Acts (check : Bool) (change : Change) (r : Act) : Type 0 where
 pub record Timely (up : Bool) (e clock ticks : ℕ) (act : Act) (r : Verdict) : Type 0 where
   pub is : decisionOf r ≡ cond (up && ltb e (clock + ticks)) (close 2) (carry ticks (changeOf act))
   pub held : (pc : ℕ) → Writes act pc → Held r pc
-  pub short : ticks ≤ 10 → Short r
+  pub short : Few ticks → Short r
 
 -- x and y are labels, they form a valid pair, and lb and lc flow to p.
 abbrev pub allowed : ℕ → ℕ → ℕ → ℕ → ℕ → Bool
@@ -106,10 +109,6 @@ stoppedAt s errorpc limit count gates pc p t clock values labels =
       memory = s .memory;
     }
 
--- The op of the word w is no common one.
-abbrev pub Other : ℕ → Type 0
-Other w = (opField w ≡ 0) ⊎ (14 < opField w)
-
 -- What is known of pc and word where the hot loop stopped.
 abbrev pub Ready : Stop → ℕ → Type 0
 Ready Out pc = Unit
@@ -117,7 +116,7 @@ Ready Late pc = Unit
 Ready Outside pc = Unit
 Ready Unreadable pc = Unit
 Ready Failed pc = Unit
-Ready (Rest w) pc = (pc < mostWords) × Other w
+Ready (Rest w) pc = (pc < mostWords) × Other (opField w)
 
 -- The verdict at a fetched word is the model's plan.
 pub record Rested (w pc errorpc p t clock : ℕ) (call : Call) (count : ℕ) (gates : List CallGate) (values labels : List ℕ) (r : Verdict) : Type 0 where

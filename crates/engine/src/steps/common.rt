@@ -1,6 +1,6 @@
-// The common ops, 1 to 14, and the hot loop over them. The loop holds pc, clock and the steps left as locals. It does a
-// common op where that finishes by the deadline: the limit, or the end tick of an upcall that is open. At anything else
-// it stops and says why.
+// The common ops, 1 to 14, 23 and 24, and the hot loop over them. The loop holds pc, clock and the steps left as locals.
+// It does a common op where that finishes by the deadline: the limit, or the end tick of an upcall that is open. At
+// anything else it stops and says why.
 use crate::word::a_of;
 use crate::word::b_of;
 use crate::word::c_of;
@@ -15,16 +15,19 @@ use model::numbers::REGISTER_COUNT;
 use model::numbers::ZERO_REGISTER;
 ghost use Prim.Native.Nat.{_+_, _≤_, _<_};
 ghost use mathlib.Core.Path.{_≡_};
-ghost use mathlib.Core.Bool.{cond, _&&_};
+ghost use mathlib.Core.Bool.{true, cond, _&&_};
 ghost use lib.Dec.{ltb};
 ghost use lib.ListN.{length, getD, set};
 ghost use Rattle.labels.specs.Label.{flows, join};
 ghost use Rattle.model.specs.Numbers.{mostWords, mostTicks, registerCount};
-ghost use Rattle.model.specs.Word.{nField};
+ghost use Rattle.model.specs.Word.{nField, compute};
 ghost use Rattle.model.specs.Ops.{writable};
 ghost use Rattle.arithmetic.specs.Arithmetic.{arithmeticOf};
 ghost use Rattle.engine.specs.Inner.Common.{going, stopping, Gone, Assigned, Combined, ReadWord, Stored, Common};
 ghost use Rattle.engine.specs.Inner.Sprint.{Sprinted};
+
+// A word without an op.
+const NO_OP: u32 = 0;
 
 // Why the hot loop stopped.
 pub enum Stop {
@@ -134,7 +137,7 @@ fn assign(
     pc: u32,
     clock: u32,
 ) -> Turn
-    requires { ⌜ (a < registerCount) × (ticks ≤ 10) × (pc < mostWords) × (clock ≤ mostTicks) ⌝ }
+    requires { ⌜ (a < registerCount) × (ticks ≤ 34) × (pc < mostWords) × (clock ≤ mostTicks) ⌝ }
     ensures { λ r. ⌜ Assigned (now (values .entry)) a ok v ticks pc clock (context .deadline) r (now (values .exit)) ⌝ }
 {
     if clock + ticks <= context.deadline {
@@ -144,7 +147,17 @@ fn assign(
     stopping(Stop::Late, pc, clock)
 }
 
-// What ops 2 to 8 compute from the registers b and c goes into register a, if their check passes.
+// What an arithmetic op computes, where its check passed: a division that isn't put is not done.
+fn computed(f: Arithmetic, ok: bool, x: u32, y: u32) -> u32
+    ensures { λ r. ⌜ (ok ≡ true → r ≡ compute (arithmeticOf f) x y) ⌝ }
+{
+    if ok {
+        return compute(f, x, y);
+    }
+    0
+}
+
+// What an arithmetic op computes from the registers b and c goes into register a, if its check passes.
 fn combine(
     f: Arithmetic,
     values: &mut [u32; REGISTER_COUNT],
@@ -167,7 +180,8 @@ fn combine(
     let t = context.t;
     let ok = three_flow(context.p, lb, lc, labels[a]);
     let ticks = ticks_of(f, one_flows(lb, t) & one_flows(lc, t), y);
-    assign(values, context, a, ok, compute(f, x, y), ticks, pc, clock)
+    let v = computed(f, ok, x, y);
+    assign(values, context, a, ok, v, ticks, pc, clock)
 }
 
 // A branch or jump: it goes on at `target` if the check passed. In an upcall a failed check stops the loop.
@@ -260,7 +274,8 @@ fn store(
     stopping(Stop::Late, pc, clock)
 }
 
-// The common op of the fetched word w.
+// The common op of the fetched word w. Op 0 has an arm of its own, so that the arms are counted from 0 and the op's number
+// is the place of its arm. What else such a word holds doesn't matter.
 fn common(
     w: u32,
     context: Context,
@@ -280,6 +295,7 @@ fn common(
     let lb = labels[b];
     let p = context.p;
     match op_of(w) {
+        0 => stopping(Stop::Rest(NO_OP), pc, clock),
         1 => {
             let ok = one_flows(p, labels[a]);
             assign(values, context, a, ok, n_of(w), 1, pc, clock)
@@ -306,6 +322,8 @@ fn common(
             let ok = two_flow(p, context.t, labels[a]);
             assign(values, context, a, ok, clock, 1, pc, clock)
         }
+        23 => combine(Arithmetic::Divide, values, labels, context, w, pc, clock),
+        24 => combine(Arithmetic::Remainder, values, labels, context, w, pc, clock),
         _ => stopping(Stop::Rest(w), pc, clock),
     }
 }

@@ -29,10 +29,11 @@ ghost use lib.ListN.{getD};
 ghost use Rattle.labels.specs.Label.{labelCount, flows, join, meet, validPair, mayRaise, mayRelabel};
 ghost use Rattle.model.specs.Numbers.{mostWords, mostTicks, mostGates, registerCount};
 ghost use Rattle.model.specs.Record.{isGate, pairOf, register};
-ghost use Rattle.model.specs.Word.{aField, bField, cField, dField};
-ghost use Rattle.model.specs.Ops.{writable, write, goto, nothing, label, enter, openUpcall, openGate, closeGate, isLabel, noGate};
+ghost use Rattle.model.specs.Word.{opField, aField, bField, cField, dField};
+ghost use Rattle.model.specs.Ops.{writable, write, goto, label, enter, openUpcall, openGate, closeGate, isLabel, noGate};
 ghost use Rattle.model.specs.Step.{close, stall, carry};
-ghost use Rattle.engine.specs.Inner.Rest.{decisionOf, allowed, gateAllowed, Acts, Held, Short, Timely, Rested, Other, Ready, Planned, Limited, Decided};
+ghost use Rattle.engine.specs.Inner.Common.{Other};
+ghost use Rattle.engine.specs.Inner.Rest.{decisionOf, allowed, gateAllowed, Acts, Held, Short, Timely, Rested, Ready, Planned, Limited, Decided};
 
 // What an op changes that is carried out.
 pub enum Act {
@@ -349,7 +350,7 @@ fn rest(
     values: &[u32; REGISTER_COUNT],
     labels: &[u8; REGISTER_COUNT],
 ) -> Verdict
-    requires { ⌜ Other w × (pc < mostWords) × (clock ≤ mostTicks) × (count ≤ mostGates) ⌝ }
+    requires { ⌜ Other (opField w) × (pc < mostWords) × (clock ≤ mostTicks) × (count ≤ mostGates) ⌝ }
     ensures { λ r. ⌜ Rested w pc errorpc p t clock call count gates (now (values .entry)) (now (labels .entry)) r ⌝ }
 {
     let up = is_upcall(call);
@@ -439,13 +440,14 @@ fn in_limit(d: Verdict, clock: u32, limit: u32, end: u64) -> Verdict
     requires { ⌜ (clock ≤ limit) × (limit ≤ mostTicks) × Short d ⌝ }
     ensures { λ r. ⌜ Limited d clock limit end r ⌝ }
 {
-    if clock == limit {
-        return Verdict::Spend;
-    }
     match d {
         Verdict::Spend => Verdict::Spend,
-        Verdict::Stall(why) => Verdict::Stall(why),
-        Verdict::Close(cause) => if end < limit as u64 {
+        Verdict::Stall(why) => if clock < limit {
+            Verdict::Stall(why)
+        } else {
+            Verdict::Spend
+        },
+        Verdict::Close(cause) => if (clock < limit) & (end < limit as u64) {
             Verdict::Close(cause)
         } else {
             Verdict::Spend

@@ -1,6 +1,7 @@
 -- `engine::steps::common::combine` meets its contract: what it reads, checks and computes, put together.
 -- Assumes nothing.
 use borrow.Author.Needs.{needs}
+use Rattle.engine.proofs.Turns.{assigned-if}
 use Rattle.engine.proofs.steps.common.combine.Statement.{statement}
 use Rattle.engine.proofs.steps.common.combine.Tie as tie
 
@@ -56,8 +57,8 @@ one-flows-requires-2 c κs = search needs
 ticks-of-requires : tie.Need-ticks-of-requires
 ticks-of-requires c κs = search needs
 
-compute-requires : tie.Need-compute-requires
-compute-requires c κs = search needs
+computed-requires : tie.Need-computed-requires
+computed-requires c κs = search needs
 
 assign-requires : tie.Need-assign-requires
 assign-requires c κs = search needs
@@ -72,9 +73,8 @@ returns c =
       ← c .before .before .before .before .before .one-flows .ensures,
       ← c .before .before .before .before .one-flows2 .ensures,
       ← c .before .before .before .ticks-of .ensures .0,
-      ← c .before .compute .ensures,
     )
-    (c .assign .ensures)
+    (assigned-if (checked c .three-flow .result) (c .before .before .computed .ensures) (c .assign .ensures))
 
 pub combine-spec : {M : Type 1} → statement M
 combine-spec =
@@ -94,6 +94,6 @@ combine-spec =
     one-flows-requires
     one-flows-requires-2
     ticks-of-requires
-    compute-requires
+    computed-requires
     assign-requires
     returns)

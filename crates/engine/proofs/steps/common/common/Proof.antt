@@ -1,18 +1,18 @@
 -- `engine::steps::common::common` meets its contract: for each op its turn, from the fields of the word and the op's number.
 -- Assumes nothing.
-use Prim.Native.Nat.{ℕ, _<_}
+use Prim.Native.Nat.{ℕ}
 use mathlib.Core.Path.{_≡_, subst, refl}
 use mathlib.Core.Bool.{Bool}
-use mathlib.Core.Logic.{_⊎_}
+use mathlib.Core.Logic.{inl}
 use mathlib.Core.Option.{some}
 use denote.Ref.{now}
 use borrow.Author.Needs.{needs}
 use Rattle.model.specs.Record.{State}
 use Rattle.model.specs.Word.{Op, opField, decode}
 use Rattle.model.specs.Step.{known, fetched, fetch}
-use Rattle.engine.specs.Inner.Common.{view, Timed}
+use Rattle.engine.specs.Inner.Common.{view, Timed, Other}
 use Rattle.engine.specs.declared.steps.common.Stop.the-variants.{Rest}
-use Rattle.engine.proofs.Turns.{fetch-op, Fields, immediate-turn, arithmetic-turn, load-turn, store-turn, branch-turn, jump-turn, clock-turn, no-common, stays}
+use Rattle.engine.proofs.Turns.{fetch-op, Fields, immediate-turn, arithmetic-turn, load-turn, store-turn, branch-turn, jump-turn, clock-turn, no-common, no-op, stays}
 use Rattle.engine.proofs.steps.common.common.Statement.{statement}
 use Rattle.engine.proofs.steps.common.common.Tie as tie
 
@@ -39,10 +39,16 @@ op-is : (c : tie.After-op-of) {s : State} {up : Bool} {deadline k : ℕ} {op : O
 op-is c h f e d = fetch-op h f (c .op-of .ensures) e d
 
 -- It is no common op, where it has none of their numbers.
-other : (c : tie.At-match-rest) → (opField (word (c .before)) ≡ 0) ⊎ (14 < opField (word (c .before)))
-other c =
-    let at = c .before in
-    subst (λ (n : ℕ). (n ≡ 0) ⊎ (14 < n)) (at .op-of .ensures) (no-common (at .op-of .result) (c .match .rest))
+other : (c : tie.At-match-rest) → Other (opField (word (c .before)))
+other c = let at = c .before in subst Other (at .op-of .ensures) (no-common (at .op-of .result) (c .match .rest))
+
+-- The state s with what the hot loop holds in its place.
+abbrev held : tie.After-op-of → State → State
+held c s =
+    let start = started c in
+    let context = start .args .context in
+    view s (context .size) (context .p) (context .t) (start .args .pc) (start .args .clock) (now (start .args .values))
+    (now (start .args .labels)) (now (start .args .words)) (now (start .args .marks))
 
 -- ---- the needs
 
@@ -96,6 +102,12 @@ combine-requires-6 c κs = search needs
 
 combine-requires-7 : tie.Need-combine-requires-7
 combine-requires-7 c κs = search needs
+
+combine-requires-8 : tie.Need-combine-requires-8
+combine-requires-8 c κs = search needs
+
+combine-requires-9 : tie.Need-combine-requires-9
+combine-requires-9 c κs = search needs
 
 element-copy-out-la : tie.Need-element-copy-out-la
 element-copy-out-la c = search needs
@@ -157,116 +169,136 @@ assign-requires-2 c κs = search needs
 stopping-requires : tie.Need-stopping-requires
 stopping-requires c κs = search needs
 
+stopping-requires-2 : tie.Need-stopping-requires-2
+stopping-requires-2 c κs = search needs
+
 returns : tie.Need-returns
-unfolding decode
+unfolding opField
 returns c =
-    let at = c .before .before .before .before .before .before in
-    λ s h f. immediate-turn h (fields at) (op-is at h f (c .before .before .before .before .before .match .keys1) refl)
-    (c .assign .ensures) (c .before .before .before .one-flows .ensures) (c .before .n-of .ensures) refl
+    let at = c .before .before in
+    λ s h f. stays (held at s) (started at .args .context .deadline) (Rest 0) (c .stopping .ensures)
+    (record { word = no-op (word at) f (at .op-of .ensures) (c .before .match .keys1); within = started at .pre .2; op = inl refl })
 
 returns-2 : tie.Need-returns-2
 unfolding decode
 returns-2 c =
-    let at = c .before .before .before in
-    λ s h f. arithmetic-turn (started at .args .context) h (op-is at h f (c .before .before .match .keys2) refl) refl refl
-    (c .combine .ensures) refl
+    let at = c .before .before .before .before .before .before in
+    λ s h f. immediate-turn h (fields at) (op-is at h f (c .before .before .before .before .before .match .keys2) refl)
+    (c .assign .ensures) (c .before .before .before .one-flows .ensures) (c .before .n-of .ensures) refl
 
 returns-3 : tie.Need-returns-3
 unfolding decode
 returns-3 c =
     let at = c .before .before .before in
     λ s h f. arithmetic-turn (started at .args .context) h (op-is at h f (c .before .before .match .keys3) refl) refl refl
-    (c .combine2 .ensures) refl
+    (c .combine .ensures) refl
 
 returns-4 : tie.Need-returns-4
 unfolding decode
 returns-4 c =
     let at = c .before .before .before in
     λ s h f. arithmetic-turn (started at .args .context) h (op-is at h f (c .before .before .match .keys4) refl) refl refl
-    (c .combine3 .ensures) refl
+    (c .combine2 .ensures) refl
 
 returns-5 : tie.Need-returns-5
 unfolding decode
 returns-5 c =
     let at = c .before .before .before in
     λ s h f. arithmetic-turn (started at .args .context) h (op-is at h f (c .before .before .match .keys5) refl) refl refl
-    (c .combine4 .ensures) refl
+    (c .combine3 .ensures) refl
 
 returns-6 : tie.Need-returns-6
 unfolding decode
 returns-6 c =
     let at = c .before .before .before in
     λ s h f. arithmetic-turn (started at .args .context) h (op-is at h f (c .before .before .match .keys6) refl) refl refl
-    (c .combine5 .ensures) refl
+    (c .combine4 .ensures) refl
 
 returns-7 : tie.Need-returns-7
 unfolding decode
 returns-7 c =
     let at = c .before .before .before in
     λ s h f. arithmetic-turn (started at .args .context) h (op-is at h f (c .before .before .match .keys7) refl) refl refl
-    (c .combine6 .ensures) refl
+    (c .combine5 .ensures) refl
 
 returns-8 : tie.Need-returns-8
 unfolding decode
 returns-8 c =
     let at = c .before .before .before in
     λ s h f. arithmetic-turn (started at .args .context) h (op-is at h f (c .before .before .match .keys8) refl) refl refl
+    (c .combine6 .ensures) refl
+
+returns-9 : tie.Need-returns-9
+unfolding decode
+returns-9 c =
+    let at = c .before .before .before in
+    λ s h f. arithmetic-turn (started at .args .context) h (op-is at h f (c .before .before .match .keys9) refl) refl refl
     (c .combine7 .ensures) refl
 
 same-length : tie.Need-same-length
 same-length c = search needs
 
-returns-9 : tie.Need-returns-9
+returns-10 : tie.Need-returns-10
 unfolding decode
-returns-9 c =
+returns-10 c =
     let at = c .before .before .before .before .before in
-    λ s h f. load-turn h (fields at) (op-is at h f (c .before .before .before .before .match .keys9) refl) (c .load .ensures) refl
+    λ s h f. load-turn h (fields at) (op-is at h f (c .before .before .before .before .match .keys10) refl) (c .load .ensures) refl
 
 same-length-2 : tie.Need-same-length-2
 same-length-2 c = search needs
 
-returns-10 : tie.Need-returns-10
-unfolding decode
-returns-10 c =
-    let chosen = c .before .before .before .before .before .before in
-    λ s h f. store-turn h (fields (chosen .before)) (op-is (chosen .before) h f (chosen .match .keys10) refl)
-    (c .before .before .store .ensures) refl
-
 returns-11 : tie.Need-returns-11
 unfolding decode
 returns-11 c =
-    let at = c .before .before .before .before in
-    λ s h f. branch-turn h (fields at) (op-is at h f (c .before .before .before .match .keys11) refl) (c .branch .ensures) refl
+    let chosen = c .before .before .before .before .before .before in
+    λ s h f. store-turn h (fields (chosen .before)) (op-is (chosen .before) h f (chosen .match .keys11) refl)
+    (c .before .before .store .ensures) refl
 
 returns-12 : tie.Need-returns-12
 unfolding decode
 returns-12 c =
     let at = c .before .before .before .before in
-    λ s h f. branch-turn h (fields at) (op-is at h f (c .before .before .before .match .keys12) refl) (c .branch2 .ensures) refl
+    λ s h f. branch-turn h (fields at) (op-is at h f (c .before .before .before .match .keys12) refl) (c .branch .ensures) refl
 
 returns-13 : tie.Need-returns-13
 unfolding decode
 returns-13 c =
-    let at = c .before .before .before in
-    λ s h f. jump-turn h (fields at) (op-is at h f (c .before .before .match .keys13) refl)
-    (c .go .ensures) (c .before .one-flows2 .ensures)
+    let at = c .before .before .before .before in
+    λ s h f. branch-turn h (fields at) (op-is at h f (c .before .before .before .match .keys13) refl) (c .branch2 .ensures) refl
 
 returns-14 : tie.Need-returns-14
 unfolding decode
 returns-14 c =
-    let at = c .before .before .before .before .before in
-    λ s h f. clock-turn h (fields at) (op-is at h f (c .before .before .before .before .match .keys14) refl)
-    (c .assign2 .ensures) (c .before .before .two-flow .ensures) (started at .pre .4) refl
+    let at = c .before .before .before in
+    λ s h f. jump-turn h (fields at) (op-is at h f (c .before .before .match .keys14) refl)
+    (c .go .ensures) (c .before .one-flows2 .ensures)
 
 returns-15 : tie.Need-returns-15
+unfolding decode
 returns-15 c =
+    let at = c .before .before .before .before .before in
+    λ s h f. clock-turn h (fields at) (op-is at h f (c .before .before .before .before .match .keys15) refl)
+    (c .assign2 .ensures) (c .before .before .two-flow .ensures) (started at .pre .4) refl
+
+returns-16 : tie.Need-returns-16
+unfolding decode
+returns-16 c =
+    let at = c .before .before .before in
+    λ s h f. arithmetic-turn (started at .args .context) h (op-is at h f (c .before .before .match .keys16) refl) refl refl
+    (c .combine8 .ensures) refl
+
+returns-17 : tie.Need-returns-17
+unfolding decode
+returns-17 c =
+    let at = c .before .before .before in
+    λ s h f. arithmetic-turn (started at .args .context) h (op-is at h f (c .before .before .match .keys17) refl) refl refl
+    (c .combine9 .ensures) refl
+
+returns-18 : tie.Need-returns-18
+returns-18 c =
     let at = c .before .before in
-    let start = started at in
-    let context = start .args .context in
-    λ s h f. stays
-    (view s (context .size) (context .p) (context .t) (start .args .pc) (start .args .clock) (now (start .args .values))
-    (now (start .args .labels)) (now (start .args .words)) (now (start .args .marks)))
-    (context .deadline) (Rest (start .args .w)) (c .stopping .ensures) (record { word = f; within = start .pre .2; op = other (c .before) })
+    λ s h f. stays (held at s) (started at .args .context .deadline) (Rest (word at)) (c .stopping2 .ensures)
+    (record { word = f; within = started at .pre .2; op = other (c .before) })
 
 pub common-spec : {M : Type 1} → statement M
 common-spec =
@@ -278,6 +310,7 @@ common-spec =
     element-copy-out-x
     element-copy-out-lb
     op-of-requires
+    stopping-requires
     element-copy-out-one-flows
     one-flows-requires
     n-of-requires
@@ -308,7 +341,9 @@ common-spec =
     element-copy-out-two-flow
     two-flow-requires
     assign-requires-2
-    stopping-requires
+    combine-requires-8
+    combine-requires-9
+    stopping-requires-2
     returns
     returns-2
     returns-3
@@ -317,12 +352,15 @@ common-spec =
     returns-6
     returns-7
     returns-8
-    same-length
     returns-9
-    same-length-2
+    same-length
     returns-10
+    same-length-2
     returns-11
     returns-12
     returns-13
     returns-14
-    returns-15)
+    returns-15
+    returns-16
+    returns-17
+    returns-18)
