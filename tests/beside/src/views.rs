@@ -19,7 +19,7 @@ use interpreter::{Event, Label, Register};
 const OUTPUTS: [&str; 4] = ["just the listing", "short by one", "none", "longer"];
 
 /// Ops of more than one tick: a tick can come before their end.
-const LONG_OPS: [u8; 9] = [8, 9, 10, 15, 16, 17, 18, 20, 21];
+const LONG_OPS: [u8; 11] = [8, 9, 10, 15, 16, 17, 18, 20, 21, 23, 24];
 
 /// So many labels view an image at each tick.
 const VIEWERS: u32 = 2;

@@ -1,8 +1,11 @@
 //! Instruction words: the op numbers, taking a word apart, and putting one
 //! together.
 
-/// The numbers in the first column of the op table.
+/// The numbers in the first column of the op table, and two more of the owner's:
+/// "Op 23 gives the unsigned quotient and op 24 the remainder".
 pub mod op {
+    use std::ops::RangeInclusive;
+
     pub const SET: u8 = 1;
     pub const ADD: u8 = 2;
     pub const SUBTRACT: u8 = 3;
@@ -25,6 +28,14 @@ pub mod op {
     pub const GATE_CALL: u8 = 20;
     pub const GATE_RETURN: u8 = 21;
     pub const HALT: u8 = 22;
+    pub const DIVIDE: u8 = 23;
+    pub const REMAINDER: u8 = 24;
+
+    /// All of them; every other op is unknown.
+    pub const KNOWN: RangeInclusive<u8> = SET..=REMAINDER;
+
+    /// The length of a table by op. No op has the number 0.
+    pub const TABLE: usize = REMAINDER as usize + 1;
 }
 
 /// "A word is op × 2^24 + a × 2^20 + b × 2^16 + n; c is n's top four bits and d

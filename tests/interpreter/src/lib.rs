@@ -5,7 +5,8 @@
 //! Names are those of the field; the paper's own words stand in the comments.
 //! What is quoted of register 0 stands in a later request of the owner's: "It
 //! now always reads 0 with the lowest label". So does what is quoted of a view:
-//! "run to that tick and list what the label sees".
+//! "run to that tick and list what the label sees", and of ops 23 and 24:
+//! "Division for mixing ratios".
 
 #![forbid(unsafe_code)]
 

@@ -7,6 +7,16 @@ use crate::instruction::{op, Instruction};
 use crate::label::{may_raise, may_relabel, Label, Pair};
 use crate::machine::{end, is_constant, Call, Machine, Register, Return};
 
+/// "Op 23 gives the unsigned quotient", and for a divisor of zero "2^32 − 1".
+fn quotient(dividend: u32, divisor: u32) -> u32 {
+    dividend.checked_div(divisor).unwrap_or(u32::MAX)
+}
+
+/// "op 24 the remainder", and for a divisor of zero "the dividend".
+fn remainder(dividend: u32, divisor: u32) -> u32 {
+    dividend.checked_rem(divisor).unwrap_or(dividend)
+}
+
 impl Machine {
     /// The first three columns of the op table; true when the check passed.
     /// "The place then grows by 1 unless the op sets it. A failed check, or
@@ -30,6 +40,8 @@ impl Machine {
             op::XOR => self.combine(i, |left, right| left ^ right),
             op::LESS => self.combine(i, |left, right| u32::from(left < right)),
             op::MULTIPLY => self.combine(i, u32::wrapping_mul),
+            op::DIVIDE => self.combine(i, quotient),
+            op::REMAINDER => self.combine(i, remainder),
             op::LOAD => self.load_word(i, words, labels),
             op::STORE => self.store_word(i, words, labels),
             op::BRANCH_EQUAL => self.branch(i, |left, right| left == right),
@@ -63,7 +75,8 @@ impl Machine {
 
     /// "Ra := Rb add, subtract, and, or, xor, (1 if less unsigned, else 0) Rc |
     /// join of p, Lb, Lc to La", and "Ra := Rb × Rc mod 2^32 | same". "Here add
-    /// and subtract drop the carry out of 32 bits."
+    /// and subtract drop the carry out of 32 bits." Ops 23 and 24 are "checked
+    /// like the other arithmetic".
     fn combine(&mut self, i: Instruction, function: impl Fn(u32, u32) -> u32) -> bool {
         let (left, right) = (self.registers[i.b()], self.registers[i.c()]);
         let source = self.pair.pc.join(left.label).join(right.label);

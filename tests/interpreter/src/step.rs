@@ -47,8 +47,13 @@ const CAUSE_LATE: u8 = 2;
 /// "A failed fetch, a failed 11, 12 or 13, or op 22 ends it with cause 3."
 const CAUSE_BROKEN: u8 = 3;
 
-/// The last column of the op table, by op. Op 8 is worked out instead.
-const TICKS: [u64; 23] = [0, 1, 1, 1, 1, 1, 1, 1, 0, 3, 3, 1, 1, 1, 1, 2, 2, 2, 2, 1, 4, 4, 1];
+/// The last column of the op table, by op. Op 8 is worked out instead. Ops 23 and
+/// 24 come "each in 34 ticks whoever may see the operands".
+const TICKS: [u64; op::TABLE] =
+    [0, 1, 1, 1, 1, 1, 1, 1, 0, 3, 3, 1, 1, 1, 1, 2, 2, 2, 2, 1, 4, 4, 1, 34, 34];
+
+/// The ticks of ops 23 and 24.
+pub const DIVISION_TICKS: u64 = TICKS[op::DIVIDE as usize];
 
 /// "register 15 gets the cause"
 const STATUS: usize = 15;
@@ -147,7 +152,7 @@ impl Machine {
             return Err(HIDDEN);
         }
         let instruction = Instruction(words[pc]);
-        if !(op::SET..=op::HALT).contains(&instruction.op()) {
+        if !op::KNOWN.contains(&instruction.op()) {
             return Err(UNKNOWN);
         }
         Ok(instruction)

@@ -210,7 +210,7 @@ fn op_8_takes_the_same_ticks_when_its_check_fails() {
 #[test]
 fn a_failed_check_takes_the_same_ticks() {
     let ticks = [(1, 1), (2, 1), (7, 1), (9, 3), (10, 3), (11, 1), (12, 1), (13, 1), (14, 1)];
-    let more = [(15, 2), (16, 2), (17, 2), (18, 2), (19, 1), (20, 4), (21, 4)];
+    let more = [(15, 2), (16, 2), (17, 2), (18, 2), (19, 1), (20, 4), (21, 4), (23, 34), (24, 34)];
     for (number, ticks) in ticks.into_iter().chain(more) {
         let mut draft = plain(&[encode_registers(number, 2, 1, 1, 1)]);
         draft.pair = Pair::new(255, 255);

@@ -18,7 +18,7 @@ const UNSET: usize = 5;
 
 /// Every op that writes or relabels register a, its other registers as `ready`
 /// has them, and its ticks.
-fn writes(a: usize) -> [(u32, u64); 12] {
+fn writes(a: usize) -> [(u32, u64); 14] {
     let a = a as u32;
     [
         (encode(op::SET, a, 0, 5), 1),
@@ -33,6 +33,8 @@ fn writes(a: usize) -> [(u32, u64); 12] {
         (encode(op::READ_CLOCK, a, 0, 0), 1),
         (encode(op::RAISE, a, 4, 0), 2),
         (encode(op::RELABEL, a, 4, 0), 2),
+        (encode_registers(op::DIVIDE, a, 2, 1, 0), 34),
+        (encode_registers(op::REMAINDER, a, 2, 1, 0), 34),
     ]
 }
 
@@ -177,12 +179,12 @@ fn upcall(time: u32, word: u32, label: u32) -> Loaded {
 fn in_an_upcall_it_passes_by_and_the_upcall_goes_on() {
     for (word, _) in writes(ZERO_REGISTER) {
         for label in [240, 255] {
-            let loaded = upcall(20, word, label);
+            let loaded = upcall(40, word, label);
             let ticks = loaded.machine.ticks(Instruction(word));
             let mut after = stepped(loaded.clone());
             assert_eq!(after, passed_by(loaded, ticks), "{word:08x}");
             after.steps(1);
-            assert_eq!((after.machine.clock, after.machine.pc, after.value(15)), (23, 30, 1));
+            assert_eq!((after.machine.clock, after.machine.pc, after.value(15)), (43, 30, 1));
         }
     }
 }
@@ -342,7 +344,8 @@ fn it_has_no_line_in_a_listing() {
     ready(&mut draft);
     let mut loaded = Loaded::of(&draft);
     loaded.run();
-    // Ops 1 to 7 and 14 take a tick each, ops 8 and 9 three, ops 15 and 16 two, the halt one.
-    assert_eq!((loaded.machine.end, loaded.machine.clock), (1, 8 + 3 + 3 + 2 * 2 + 1));
+    // Ops 1 to 7 and 14 take a tick each, ops 8 and 9 three, ops 15 and 16 two, ops 23 and 24
+    // thirty-four, the halt one.
+    assert_eq!((loaded.machine.end, loaded.machine.clock), (1, 8 + 3 + 3 + 2 * 2 + 2 * 34 + 1));
     assert!(!loaded.listing().contains("R,0,"));
 }

@@ -12,6 +12,7 @@ use beside::loads::{try_certify, CERTIFY};
 use beside::other::Other;
 use beside::pairs::certified::{broken_under, certificate_of, uncovered};
 use beside::pairs::check::{compare, unreached};
+use beside::pairs::divisions;
 use beside::pairs::hidden::{came, Came};
 use beside::pairs::make::Pair;
 use beside::pairs::provisos::{both, bounds, Bounds};
@@ -100,6 +101,7 @@ fn main() -> ExitCode {
 fn expected(is_library: bool) -> Vec<String> {
     let mut names = EXPECTED.map(str::to_string).to_vec();
     names.extend(CAME.map(|(_, name)| name.to_string()));
+    names.extend(divisions::expected().iter().map(|name| certified(name)));
     names.extend(CAUSES.map(|cause| format!("pairs with {cause}")));
     names.extend(CAUSES[1..].iter().map(|cause| differ(cause)));
     if is_library {
@@ -107,6 +109,11 @@ fn expected(is_library: bool) -> Vec<String> {
         names.extend(CAUSES.map(|cause| format!("certify, {cause}")));
     }
     names
+}
+
+/// What is counted of pairs that are certified to the end.
+fn certified(name: &str) -> String {
+    format!("certified to the end: {name}")
 }
 
 /// A pair, mostly one that goes on for a while: of those whose loaded state is a
@@ -237,6 +244,8 @@ impl Tried {
         let apart = ended && one.last().machine.end != other.last().machine.end;
         let name = "certified to the end: pairs alike to the last tick though their ends differ";
         tally.count_if(apart, name);
+        let divided = divisions::met(*level, one, other, bound);
+        divided.iter().for_each(|name| tally.count(&certified(name)));
     }
 
     /// A pair with a break: what went before, whether the two differ from there

@@ -8,6 +8,7 @@ use beside::calls::Calls;
 use beside::library::Library;
 use beside::other::Other;
 use beside::pairs::check::{compare, unreached};
+use beside::pairs::divisions;
 use beside::pairs::hidden::{came, came_over_gate, Came};
 use beside::pairs::make::Pair;
 use beside::pairs::provisos::{both, bounds, first_broken, Bounds, NAMES};
@@ -64,6 +65,7 @@ fn main() -> ExitCode {
     };
     let mut expected = EXPECTED.map(str::to_string).to_vec();
     expected.extend(views::EXPECTED.map(str::to_string));
+    expected.extend(divisions::expected());
     expected.extend(CAME.map(|(_, name)| name.to_string()));
     expected.extend(NAMES.map(cut_off));
     expected.extend(NAMES.map(differs));
@@ -146,6 +148,7 @@ impl Trial<'_> {
         let ends = (one.last().machine.end, other.last().machine.end);
         let apart = all && ended == (true, true) && ends.0 != ends.1;
         tally.count_if(apart, "pairs alike to the last tick though their ends differ");
+        divisions::met(level, one, other, bound).iter().for_each(|name| tally.count(name));
     }
 
     /// Counts which provisos cut the comparison off, and whether the pair

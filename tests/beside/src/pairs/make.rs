@@ -5,9 +5,10 @@ use super::seen::is_within;
 use interpreter::draft::Draft;
 use interpreter::generator::census::Census;
 use interpreter::generator::compose::compose;
+use interpreter::generator::division::divides;
 use interpreter::generator::labels::{not_below, valid_pair};
 use interpreter::generator::random::Random;
-use interpreter::instruction::{encode, op};
+use interpreter::instruction::{encode, op, Instruction};
 use interpreter::machine::{end, ZERO_REGISTER};
 use interpreter::{Label, Machine, Register};
 
@@ -48,6 +49,8 @@ struct Levels {
     callers: Vec<Label>,
     /// The labels to which it lowers a register.
     lowered: Vec<Label>,
+    /// The clock labels under which it divides what is hidden from them.
+    dividing: Vec<Label>,
 }
 
 /// An image and a label at which something is hidden that its run comes by.
@@ -55,6 +58,7 @@ fn choose(random: &mut Random) -> (Draft, Label) {
     let (tries, wanted): (u32, fn(&Levels) -> &[Label]) = match random.below(10) {
         0..=5 => (TRIES, |levels| &levels.callers),
         6 | 7 => (TRIES, |levels| &levels.lowered),
+        8 => (TRIES, |levels| &levels.dividing),
         _ => (0, |_| &[]),
     };
     for _ in 0..tries {
@@ -91,12 +95,22 @@ fn hidden_from(before: &Machine, after: &Machine) -> Option<Label> {
     (!is_within(after.pair.pc, caller)).then_some(caller)
 }
 
+/// The clock label where the word at the pc divides what that label doesn't see.
+fn divides_from(machine: &Machine, words: &[u32]) -> Option<Label> {
+    let i = Instruction(*words.get(machine.pc as usize)?);
+    let timing = machine.pair.timing;
+    let operands = [i.b(), i.c()].map(|number| machine.registers[number].label);
+    let is_hidden = operands.iter().any(|&label| !is_within(label, timing));
+    (divides(i.op()) && is_hidden).then_some(timing)
+}
+
 /// Runs the image and notes the levels.
 fn watch(draft: &Draft) -> Levels {
     let (mut machine, mut words, labels) = draft.loaded();
     let mut levels = Levels::default();
     while machine.end == end::RUNNING {
         let before = machine.clone();
+        levels.dividing.extend(divides_from(&before, &words));
         machine.step(&mut words, &labels).expect("a loaded record stays fit");
         levels.callers.extend(hidden_from(&before, &machine));
         let registers = before.registers.iter().zip(&machine.registers);
@@ -122,10 +136,12 @@ fn change(random: &mut Random, level: Label, location: &mut Register) {
     if is_within(location.label, level) || random.chance(30) {
         return;
     }
-    location.value = match random.below(4) {
+    location.value = match random.below(5) {
         0 => random.below(256),
         1 => location.value ^ 1 << random.below(32),
         2 => random.bits(),
+        // What a quick division would be quick with.
+        3 => random.pick(&[0, 0, 1, u32::MAX]),
         _ => any_op(random),
     };
     let label = not_below(random, level);
@@ -136,7 +152,8 @@ fn change(random: &mut Random, level: Label, location: &mut Register) {
 
 /// A word of any op.
 fn any_op(random: &mut Random) -> u32 {
-    let number = random.between(op::SET.into(), op::HALT.into()) as u8;
+    let (first, last) = (*op::KNOWN.start(), *op::KNOWN.end());
+    let number = random.between(first.into(), last.into()) as u8;
     encode(number, random.bits(), random.bits(), random.bits())
 }
 

@@ -7,6 +7,7 @@
 
 pub mod certified;
 pub mod check;
+pub mod divisions;
 pub mod hidden;
 pub mod make;
 pub mod provisos;

@@ -3,6 +3,7 @@
 //! Images are counted, not steps: a loop would count one thing many times.
 
 use super::damage::PLANS;
+use super::division;
 use super::faults::FAULTS;
 use super::on_zero::writes;
 use crate::instruction::op;
@@ -108,15 +109,20 @@ const NOTES: [&str; 89] = [
     "op 20 with register 0 for gate 0",
 ];
 
+/// All notes, in the order in which they are shown.
+fn notes() -> impl Iterator<Item = &'static str> {
+    NOTES.into_iter().chain(division::NOTES)
+}
+
 /// Counts of everything met so far.
 pub struct Census {
     /// By context, op, and 0 for a failed or 1 for a passed check.
-    ops: [[[u64; 2]; 23]; 4],
+    ops: [[[u64; 2]; op::TABLE]; 4],
     /// By op: not carried out in an upcall because it is late, and not carried
     /// out because of the limit.
-    undone: [[u64; 2]; 23],
+    undone: [[u64; 2]; op::TABLE],
     /// By op: what one met that would write or relabel register 0.
-    on_zero: [[u64; ON_ZERO.len()]; 23],
+    on_zero: [[u64; ON_ZERO.len()]; op::TABLE],
     notes: BTreeMap<&'static str, u64>,
     /// What no run should meet.
     strange: BTreeMap<String, u64>,
@@ -206,6 +212,7 @@ fn can_be_undone(number: u8, undone: Undone) -> bool {
             op::MULTIPLY..=op::STORE
                 | op::RAISE..=op::UPCALL
                 | op::GATE_CALL..=op::GATE_RETURN
+                | op::DIVIDE..=op::REMAINDER
         ),
     }
 }
@@ -218,12 +225,12 @@ impl Default for Census {
 
 impl Census {
     pub fn new() -> Census {
-        let notes = NOTES.iter().map(|&name| (name, 0)).collect();
+        let notes = notes().map(|name| (name, 0)).collect();
         let plans = PLANS.iter().map(|plan| format!("damage {plan:?}"));
         let faults = FAULTS.iter().map(|fault| fault.to_string());
         let damages = plans.chain(faults).map(|name| (name, 0)).collect();
-        let (ops, undone) = ([[[0; 2]; 23]; 4], [[0; 2]; 23]);
-        let on_zero = [[0; ON_ZERO.len()]; 23];
+        let (ops, undone) = ([[[0; 2]; op::TABLE]; 4], [[0; 2]; op::TABLE]);
+        let on_zero = [[0; ON_ZERO.len()]; op::TABLE];
         Census { ops, undone, on_zero, notes, strange: BTreeMap::new(), damages }
     }
 
@@ -296,8 +303,8 @@ impl Census {
         let damages = self.damages.iter().filter(|(_, &count)| count == 0);
         let mut unmet: Vec<String> = notes.map(|(name, _)| name.to_string()).collect();
         unmet.extend(damages.map(|(name, _)| name.clone()));
-        unmet.extend((op::SET..=op::HALT).flat_map(|number| self.unmet_of_op(number)));
-        unmet.extend((op::SET..=op::HALT).flat_map(|number| self.unmet_on_zero(number)));
+        unmet.extend(op::KNOWN.flat_map(|number| self.unmet_of_op(number)));
+        unmet.extend(op::KNOWN.flat_map(|number| self.unmet_on_zero(number)));
         unmet
     }
 
@@ -364,14 +371,13 @@ impl fmt::Display for Census {
     fn fmt(&self, out: &mut fmt::Formatter) -> fmt::Result {
         writeln!(out, "images in which an op passed/failed with {},", CONTEXTS.join(", with "))?;
         writeln!(out, "was late in an upcall, and was barred by the limit")?;
-        let rows: String = (op::SET..=op::HALT).map(|number| self.row(number)).collect();
+        let rows: String = op::KNOWN.map(|number| self.row(number)).collect();
         write!(out, "{rows}")?;
         writeln!(out, "images in which an op passed by at register 0 with the same calls open,")?;
         writeln!(out, "was late, was barred, and was stopped by nothing but register 0")?;
-        let writers = (op::SET..=op::HALT).filter(|&number| writes(number));
+        let writers = op::KNOWN.filter(|&number| writes(number));
         let rows: String = writers.map(|number| self.row_on_zero(number)).collect();
-        let notes: String =
-            NOTES.iter().map(|name| format!("{name}: {}\n", self.notes[name])).collect();
+        let notes: String = notes().map(|name| format!("{name}: {}\n", self.notes[name])).collect();
         let damages: String =
             self.damages.iter().map(|(name, count)| format!("{name}: {count}\n")).collect();
         writeln!(out, "{rows}{notes}{damages}kinds met that can't be: {:?}", self.strange())?;

@@ -7,16 +7,17 @@
 //! out is the image from which the machine would have run the same way.
 
 use super::census::{context, is_possible, Census, OnZero, Undone};
+use super::division::{divides, divides_at_edge, has_time};
 use super::labels;
 use super::on_zero::{is_on_zero, is_stopped_alone, with_a, writes};
 use super::random::Random;
-use super::start::start_draft;
+use super::start::{start_draft, LONGEST_UPCALL};
 use super::words::word_of;
 use crate::draft::Draft;
 use crate::instruction::{op, Instruction};
 use crate::label::{Label, Pair};
 use crate::machine::{end, Machine, MAX_LIMIT, ZERO_REGISTER};
-use crate::step::Event;
+use crate::step::{Event, DIVISION_TICKS};
 
 /// So many words are tried for an op that is wanted to pass or to fail.
 const TRIES: u32 = 60;
@@ -28,6 +29,14 @@ const ON_ZERO_CHANCE: u32 = 8;
 const ON_ZERO_CHANCE_IN_UPCALLS: u32 = 18;
 const ON_ZERO_TRIES: u32 = 6;
 
+/// Where a division would be late in an upcall, it is a choice like others in so
+/// many of a hundred words only: it would close most upcalls before much is done.
+const LATE_DIVISION_CHANCE: u32 = 10;
+
+/// So many of a hundred divisions shall be by 1, by 2^32 - 1, or of a number that
+/// would be negative if it had a sign: few registers hold these.
+const EDGE_DIVISION_CHANCE: u32 = 50;
+
 /// A program being written and run at once.
 struct Writer {
     draft: Draft,
@@ -38,11 +47,12 @@ struct Writer {
     decided: Vec<bool>,
     /// Whether the error pc has mattered already.
     error_pc_decided: bool,
-    /// When each step finished, apart for those in upcalls and for those that
-    /// closed one.
+    /// When each step finished, apart for those in upcalls, for those that closed
+    /// one, and for those that passed by at register 0.
     finishes: Vec<u64>,
     finishes_in_upcalls: Vec<u64>,
     finishes_of_closes: Vec<u64>,
+    finishes_on_zero: Vec<u64>,
 }
 
 /// A valid image, written as it runs and then given a limit of interest.
@@ -70,6 +80,7 @@ impl Writer {
             finishes: Vec::new(),
             finishes_in_upcalls: Vec::new(),
             finishes_of_closes: Vec::new(),
+            finishes_on_zero: Vec::new(),
         }
     }
 
@@ -95,8 +106,8 @@ impl Writer {
         };
         self.labels[pc] = label.0;
         let word = if unknown {
-            // An unknown op: 0, or above the last.
-            random.pick(&[0, 23, 24, 128, 255]) << 24 | random.bits() >> 8
+            // An unknown op: 0, or above the last; 151 is 23 with one more bit.
+            random.pick(&[0, 25, 26, 128, 151, 255]) << 24 | random.bits() >> 8
         } else if random.chance(self.on_zero_chance()) {
             self.word_on_zero(random, census)
         } else {
@@ -141,12 +152,14 @@ impl Writer {
         let (number, passed) = self.wanted_kind(random, census);
         let pc = self.machine.pc as usize;
         let before = self.words[pc];
+        let is_edge = divides(number) && random.chance(EDGE_DIVISION_CHANCE);
         for _ in 0..TRIES {
             let word = word_of(random, number, self.machine.pc, self.machine.size);
             self.words[pc] = word;
             let (has_passed, next) = self.try_step();
             let is_new = self.decided.get(next as usize) == Some(&false);
-            let leads_on = is_new && self.is_of_interest(Instruction(word), passed);
+            let is_wanted = !is_edge || divides_at_edge(&self.machine, Instruction(word));
+            let leads_on = is_new && is_wanted && self.is_of_interest(Instruction(word), passed);
             let stays = is_on_zero(Instruction(word));
             if has_passed == passed && !stays && (leads_on || random.chance(10)) {
                 break;
@@ -162,7 +175,10 @@ impl Writer {
             Some((_, end_tick)) if end_tick == self.machine.clock => OnZero::Undone(Undone::Late),
             _ => OnZero::PassedBy(context(&self.machine)),
         };
-        let numbers: Vec<u8> = (op::SET..=op::HALT).filter(|&number| writes(number)).collect();
+        let is_late = matches!(met, OnZero::Undone(_));
+        let any = is_late || self.takes_divisions(random);
+        let is_wanted = |&number: &u8| writes(number) && (any || !divides(number));
+        let numbers: Vec<u8> = op::KNOWN.filter(is_wanted).collect();
         let weight = |&number: &u8| rarity(census.on_zero_count(number, met));
         let weights: Vec<u32> = numbers.iter().map(weight).collect();
         numbers[random.weighted(&weights)]
@@ -200,7 +216,9 @@ impl Writer {
             (2 | 3, 30..=34) => return (op::END_UPCALL, true),
             _ => {}
         }
-        let kinds = (op::SET..=op::HALT).flat_map(|number| [(number, false), (number, true)]);
+        let any = self.takes_divisions(random);
+        let numbers = op::KNOWN.filter(|&number| any || !divides(number));
+        let kinds = numbers.flat_map(|number| [(number, false), (number, true)]);
         let kinds: Vec<(u8, bool)> =
             kinds.filter(|&(number, passed)| is_possible(shape, number, passed)).collect();
         let weight =
@@ -209,12 +227,17 @@ impl Writer {
         kinds[random.weighted(&weights)]
     }
 
-    /// Close to an upcall's end tick, often an op that finishes at that tick or
-    /// one past it.
+    /// Whether a division is a choice: where it would be late, seldom.
+    fn takes_divisions(&self, random: &mut Random) -> bool {
+        has_time(&self.machine) || random.chance(LATE_DIVISION_CHANCE)
+    }
+
+    /// Close to an upcall's end tick, or as far from it as a division takes, often
+    /// an op that finishes at that tick or one past it.
     fn near_end_tick(&self, random: &mut Random) -> Option<(u8, bool)> {
         let (_, end_tick) = self.machine.open_upcall()?;
         let left = end_tick - self.machine.clock;
-        if left > 4 || random.chance(50) {
+        if random.chance(50) {
             return None;
         }
         let passed = random.chance(50);
@@ -223,7 +246,11 @@ impl Writer {
             1 => Some((random.pick(&[op::SET, op::XOR, op::READ_CLOCK, op::BRANCH_LESS]), passed)),
             2 => Some((random.pick(&[op::RAISE, op::RELABEL, op::SET_PAIR]), passed)),
             3 => Some((random.pick(&[op::LOAD, op::STORE]), passed)),
-            _ => Some((random.pick(&[op::MULTIPLY, op::GATE_CALL, op::GATE_RETURN]), false)),
+            4 | 5 => Some((random.pick(&[op::MULTIPLY, op::GATE_CALL, op::GATE_RETURN]), false)),
+            _ if (DIVISION_TICKS - 1..=DIVISION_TICKS).contains(&left) => {
+                Some((random.pick(&[op::DIVIDE, op::REMAINDER]), passed))
+            }
+            _ => None,
         }
     }
 
@@ -261,9 +288,9 @@ impl Writer {
             _ if !passed => self.fails_narrowly(i),
             op::UPCALL => {
                 let back = registers[i.d()].value as usize;
-                (a <= 60 || a == u32::MAX) && self.decided.get(back) == Some(&false)
+                (a <= LONGEST_UPCALL || a == u32::MAX) && self.decided.get(back) == Some(&false)
             }
-            op::STORE => b > *pc && b < pc + 20 && (1..=22).contains(&(a >> 24)),
+            op::STORE => b > *pc && b < pc + 20 && op::KNOWN.contains(&Instruction(a).op()),
             op::SET_PAIR => b != u32::from(self.machine.pair.pc.0),
             _ => true,
         }
@@ -289,17 +316,21 @@ impl Writer {
         match event {
             Event::Closed(_) => self.finishes_of_closes.push(self.machine.clock),
             Event::FetchFailed(_) | Event::Stalled(_) => self.error_pc_decided = true,
+            Event::Failed if is_on_zero(instruction) => {
+                self.finishes_on_zero.push(self.machine.clock);
+            }
             _ => {}
         }
     }
 
-    /// Puts the limit at, just before or just after the finish of a step, most
-    /// often of one in an upcall; or far away. What came before runs the same
+    /// Puts the limit at, just before or just after the finish of a step, often of
+    /// one in an upcall or at register 0; or far away. What came before runs the same
     /// under either limit.
     fn choose_limit(&mut self, random: &mut Random) {
-        let steps = match random.below(3) {
-            0 if !self.finishes_of_closes.is_empty() => &self.finishes_of_closes,
-            1 if !self.finishes_in_upcalls.is_empty() => &self.finishes_in_upcalls,
+        let steps = match random.below(7) {
+            0 | 1 if !self.finishes_of_closes.is_empty() => &self.finishes_of_closes,
+            2 | 3 if !self.finishes_in_upcalls.is_empty() => &self.finishes_in_upcalls,
+            4 if !self.finishes_on_zero.is_empty() => &self.finishes_on_zero,
             _ => &self.finishes,
         };
         match random.below(100) {

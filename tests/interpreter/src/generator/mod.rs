@@ -4,6 +4,7 @@
 pub mod census;
 pub mod compose;
 pub mod damage;
+pub mod division;
 pub mod faults;
 pub mod labels;
 mod on_zero;

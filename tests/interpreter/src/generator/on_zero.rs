@@ -5,7 +5,10 @@ use crate::machine::{Call, Machine, Register, MAX_LIMIT, ZERO_REGISTER};
 
 /// Whether an op writes or relabels register a.
 pub fn writes(number: u8) -> bool {
-    matches!(number, op::SET..=op::LOAD | op::READ_CLOCK..=op::RELABEL)
+    matches!(
+        number,
+        op::SET..=op::LOAD | op::READ_CLOCK..=op::RELABEL | op::DIVIDE..=op::REMAINDER
+    )
 }
 
 /// Whether it is register 0 that an op would write or relabel.

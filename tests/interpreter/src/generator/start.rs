@@ -1,12 +1,14 @@
 //! The image before its program: its labels, gates and registers, laid out so
 //! that the ops find what they need.
 
+use super::division::NEGATIVE;
 use super::labels;
 use super::random::Random;
 use super::words::any_word;
 use crate::draft::Draft;
 use crate::label::{Label, Pair};
 use crate::machine::{MAX_SIZE, ZERO_REGISTER};
+use crate::step::DIVISION_TICKS;
 use std::ops::Range;
 
 /// "register 15 gets the cause"
@@ -15,6 +17,10 @@ const STATUS: usize = 15;
 /// The registers that hold what ops need: all between register 0 and the one for
 /// causes.
 const TOOLS: Range<usize> = ZERO_REGISTER + 1..STATUS;
+
+/// The most ticks that an upcall gets which is to end: enough for two divisions
+/// and something between them.
+pub const LONGEST_UPCALL: u32 = 80;
 
 /// In so many of a hundred images all runs under the lowest labels, and nothing
 /// but its number keeps register 0 from being written.
@@ -40,7 +46,7 @@ pub fn start_draft(random: &mut Random) -> Draft {
         1 => error_pc,
         _ => random.below(size.div_ceil(8)),
     };
-    let limit = u64::from(random.between(60, 400));
+    let limit = u64::from(random.between(60, 500));
     let mut draft = Draft::new(size as usize, error_pc, pc, pair, limit);
     let high = if is_lowest { lowest } else { higher_pair(random, pair) };
     add_gates(random, &mut draft);
@@ -72,8 +78,8 @@ fn higher_pair(random: &mut Random, pair: Pair) -> Pair {
     Pair { pc, timing: labels::sound_above(random, pc) }
 }
 
-/// Puts into registers of low labels what upcalls, gate calls, op 17 and a
-/// program that rewrites itself need, and gives register 15 a label at which
+/// Puts into registers of low labels what upcalls, gate calls, op 17, divisions
+/// and a program that rewrites itself need, and gives register 15 a label at which
 /// causes mostly arrive.
 fn lay_out_tools(random: &mut Random, draft: &mut Draft, high: Pair) {
     let size = draft.words.len() as u32;
@@ -81,15 +87,20 @@ fn lay_out_tools(random: &mut Random, draft: &mut Draft, high: Pair) {
     let time = match random.below(20) {
         0 => u32::MAX,
         1..=5 => random.below(5),
-        _ => random.between(5, 60),
+        // A division takes up all of it, or a tick too many.
+        6..=9 => DIVISION_TICKS as u32 - random.below(2),
+        _ => random.between(5, LONGEST_UPCALL),
     };
     let back = random.between(size / 2, size - 1);
     let gate = random.below(draft.gates.len() as u32 + 1);
     let (target, code) = (random.between(size / 4, size - 1), any_word(random, size));
+    let (dividend, divisor) =
+        (NEGATIVE | random.bits(), random.pick(&[1, 1, 2, 3, 1_000, u32::MAX]));
     let labels = [high.pc, high.timing, higher.pc, higher.timing, draft.pair.pc];
     let labels = labels.map(|label| u32::from(label.0));
     let first = random.index(TOOLS.len());
-    for (offset, value) in [time, back, gate, target, code].into_iter().chain(labels).enumerate() {
+    let values = [time, back, gate, target, code, dividend, divisor];
+    for (offset, value) in values.into_iter().chain(labels).enumerate() {
         let label = if random.chance(75) { Label::LOWEST } else { draft.pair.pc };
         draft.register(TOOLS.start + (first + offset) % TOOLS.len(), label.0, value);
     }

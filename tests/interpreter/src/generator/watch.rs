@@ -1,6 +1,7 @@
 //! Watching a run: each step is sorted into the kinds of the census.
 
 use super::census::{context, Census, OnZero, Undone, CONTEXTS};
+use super::division::{divides, Division};
 use super::on_zero::{is_on_zero, is_stopped_alone, unhurried};
 use crate::instruction::{op, Instruction};
 use crate::label::Label;
@@ -69,6 +70,7 @@ fn watch_step(census: &mut Census, watched: &mut Watched) {
     moment.count_on_zero(census, event);
     moment.count_lateness(census, event);
     moment.count_operands(census);
+    moment.count_division(census, event);
     moment.count_zero_sources(census, event);
     let stored = moment.count_passed(census, event, &watched.machine);
     if let Some(address) = stored {
@@ -84,7 +86,7 @@ impl Watched {
         let instruction = self.words.get(pc).map(|&word| Instruction(word));
         let why = match (instruction, label) {
             (Some(_), Some(label)) if !label.flows_to(before.pair.pc) => 2,
-            (Some(i), _) if !(op::SET..=op::HALT).contains(&i.op()) => 3,
+            (Some(i), _) if !op::KNOWN.contains(&i.op()) => 3,
             (Some(_), _) => 0,
             _ => 1,
         };
@@ -280,6 +282,15 @@ impl Moment {
             op::GATE_CALL if context(&self.before) == 0 => self.count_gate_call(census, i),
             _ => {}
         }
+    }
+
+    /// Counts what a division meets.
+    fn count_division(&self, census: &mut Census, event: Event) {
+        let Some((instruction, finish)) = self.op.filter(|(i, _)| divides(i.op())) else {
+            return;
+        };
+        let division = Division { before: &self.before, instruction, finish };
+        division.count(census, event);
     }
 
     /// Counts the reasons, all that hold, for which a gate call fails with no

@@ -9,7 +9,8 @@ const ZERO_CHANCE: u32 = 12;
 
 /// An instruction word of any op, its fields as they come.
 pub fn any_word(random: &mut Random, size: u32) -> u32 {
-    let number = random.between(u32::from(op::SET), u32::from(op::HALT)) as u8;
+    let (first, last) = (*op::KNOWN.start(), *op::KNOWN.end());
+    let number = random.between(first.into(), last.into()) as u8;
     let pc = random.below(size);
     word_of(random, number, pc, size)
 }
@@ -24,7 +25,7 @@ pub fn word_of(random: &mut Random, number: u8, pc: u32, size: u32) -> u32 {
         (op::BRANCH_EQUAL | op::BRANCH_LESS, 7 | 8) => random.below(size),
         (op::SET, 0..=3) => forward,
         (op::SET, 4..=7) => random.below(256),
-        (op::ADD..=op::MULTIPLY | op::SET_PAIR | op::UPCALL, _) => {
+        (op::ADD..=op::MULTIPLY | op::DIVIDE..=op::REMAINDER | op::SET_PAIR | op::UPCALL, _) => {
             let (c, d) = (source(random), source(random));
             c << 12 | d << 8 | random.below(256)
         }
