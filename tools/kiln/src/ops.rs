@@ -17,7 +17,8 @@ pub struct Op {
     pub ticks: &'static str,
 }
 
-/// All ops. `lt` and `blt` compare without sign, as all numbers have none.
+/// All ops. `lt` and `blt` compare without sign, and `div` and `rem` divide
+/// without it, as all numbers have none.
 pub const OPS: &[Op] = &[
     op(1, "set", "a, n", "1"),
     op(2, "add", "a, b, c", "1"),
@@ -41,6 +42,8 @@ pub const OPS: &[Op] = &[
     op(20, "gate", "b", "4"),
     op(21, "return", "", "4"),
     op(22, "halt", "", "1"),
+    op(23, "div", "a, b, c", "34"),
+    op(24, "rem", "a, b, c", "34"),
 ];
 
 const fn op(number: u8, name: &'static str, operands: &'static str, ticks: &'static str) -> Op {
@@ -196,7 +199,7 @@ pub fn unnamed_register(word: u32) -> usize {
 /// other ops that have a register a read it.
 pub fn destination(word: u32) -> Option<usize> {
     let Fields { op, a, .. } = fields(word);
-    matches!(op, 1..=9 | 14..=16).then_some(a)
+    matches!(op, 1..=9 | 14..=16 | 23..=24).then_some(a)
 }
 
 /// The place of a word's op, if its op has one: of the branches.
@@ -277,13 +280,17 @@ mod tests {
         assert_eq!(in_words(204_537_875), "blt R3, R1, 19");
         assert_eq!(in_words(308_770_816), "upcall ticks R6, pair R7 R7, back R8");
         assert_eq!(in_words(369_098_752), "halt");
+        assert_eq!(in_words(399_622_144), "div R13, R1, R12");
+        assert_eq!(in_words(417_447_936), "rem R14, R1, R12");
+        assert_eq!(in_words(419_430_400), ".word 419430400");
         assert_eq!(in_words(540), ".word 540");
     }
 
     #[test]
     fn an_exact_word_has_no_unused_bit() {
-        assert!(is_exact(128_589_824) && is_exact(369_098_752));
+        assert!(is_exact(128_589_824) && is_exact(369_098_752) && is_exact(399_622_144));
         assert!(!is_exact(128_589_825) && !is_exact(369_098_753) && !is_exact(540));
+        assert!(!is_exact(399_622_145) && !is_exact(417_448_192));
     }
 
     /// The man page has the table once more, for the reader.
