@@ -90,8 +90,8 @@ unfoldable pub decode : ℕ → Option Op
 decode zero = none
 decode (suc k) = getElem? ops k
 
--- What they compute. Add, subtract and multiply keep the low 32 bits. A divisor of 0 gives 2^32 - 1 for the quotient and
--- the dividend for the remainder, as RISC-V has it.
+-- What the arithmetic ops compute. Add, subtract and multiply keep the low 32 bits. A divisor of 0 gives 2^32 - 1 for
+-- the quotient and the dividend for the remainder, as RISC-V has it.
 unfoldable pub compute : Arithmetic → ℕ → ℕ → ℕ
 compute add x y = (x + y) % 2 ^ 32
 compute subtract x y = (x + (2 ^ 32 - y)) % 2 ^ 32
