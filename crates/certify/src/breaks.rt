@@ -2,12 +2,12 @@
 // within and whose timing label is outside.
 use crate::Certificate;
 use crate::WHOLE;
-use engine::calls::is_upcall;
-use engine::calls::newest;
-use engine::word::index;
 use labels::Label;
 use model::Control;
 use model::Fixed;
+use parts::calls::is_upcall;
+use parts::calls::newest;
+use parts::word::index;
 ghost use Prim.Native.Nat.{_≤_};
 ghost use mathlib.Core.Path.{_≡_};
 ghost use Rattle.model.specs.Seen.{within};

@@ -1,16 +1,16 @@
 // Attempts to release a register: what the next step tries, whether or not the register's own label allows it.
 use crate::breaks::is_within;
-use engine::calls::newest;
+use engine::steps::RELABEL;
 use engine::steps::deadline_of;
-use engine::word::RELABEL;
-use engine::word::a_of;
-use engine::word::b_of;
-use engine::word::index;
-use engine::word::op_of;
 use labels::LABEL_COUNT;
 use labels::Label;
 use model::Control;
 use model::numbers::REGISTER_COUNT;
+use parts::calls::newest;
+use parts::word::a_of;
+use parts::word::b_of;
+use parts::word::index;
+use parts::word::op_of;
 ghost use Prim.Native.Nat.{_≤_};
 ghost use mathlib.Core.Path.{_≡_};
 ghost use lib.ListN.{length};

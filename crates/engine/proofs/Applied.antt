@@ -19,7 +19,7 @@ use Rattle.engine.specs.declared.steps.rest.Act.{Act}
 use Rattle.engine.specs.declared.steps.rest.Act.the-variants.{Pass, SetLabel, Enter, OpenUpcall, OpenGate}
 use Rattle.engine.specs.declared.steps.rest.Verdict.{Verdict}
 use Rattle.engine.specs.declared.steps.rest.Verdict.the-variants.{Close, Carry}
-use Rattle.engine.specs.Calls.{newestOf}
+use Rattle.parts.specs.Calls.{newestOf}
 use Rattle.engine.specs.Inner.Rest.{changeOf, decisionOf, Writes, Held, Admits}
 use Rattle.engine.specs.Inner.Apply.{banked, Labelled, Wrote, controlOf, restoredTo, Changed, Controlled}
 

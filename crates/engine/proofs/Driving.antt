@@ -29,7 +29,8 @@ use Rattle.engine.specs.declared.steps.drive.Halted.{Halted}
 use Rattle.engine.specs.declared.steps.rest.Act.{Act}
 use Rattle.engine.specs.declared.steps.rest.Verdict.{Verdict}
 use Rattle.engine.specs.declared.steps.rest.Verdict.the-variants.{Spend, Stall, Close, Carry}
-use Rattle.engine.specs.Calls.{newestOf, nearer}
+use Rattle.parts.specs.Calls.{newestOf}
+use Rattle.engine.specs.Calls.{nearer}
 use Rattle.engine.specs.Advance.{stateFrom, fitting, advanced, strode}
 use Rattle.engine.specs.Inner.Common.{view, Timed, Stopped}
 use Rattle.engine.specs.Inner.Sprint.{Paused, Sprinted}

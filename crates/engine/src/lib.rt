@@ -1,4 +1,2 @@
 // The core of the machine: so many steps of a control over lent registers and memory. One step and the run share it.
-pub mod calls;
 pub mod steps;
-pub mod word;

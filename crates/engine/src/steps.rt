@@ -1,7 +1,7 @@
 // So many steps, by a tick. The ranges that they rest on, and that memory is lent whole, are tested first; where that doesn't hold,
 // nothing is done. The functions below that ask something of their caller are seen here alone.
-use crate::word::index;
 pub use drive::Halted;
+pub use drive::RELABEL;
 pub use drive::deadline_of;
 use drive::drive;
 use drive::nearer;
@@ -11,6 +11,7 @@ use model::numbers::MOST_GATES;
 use model::numbers::MOST_TICKS;
 use model::numbers::MOST_WORDS;
 use model::numbers::REGISTER_COUNT;
+use parts::word::index;
 ghost use mathlib.Core.Path.{_≡_};
 ghost use mathlib.Core.List.{[]};
 ghost use Rattle.engine.specs.Advance.{stateFrom, fitting, advanced, strodeFrom, strode};

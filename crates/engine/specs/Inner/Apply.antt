@@ -12,7 +12,7 @@ use Rattle.model.specs.Record.{State, isEmpty, returnOf, pairOf}
 use Rattle.model.specs.Step.{written, changeWrite, writeOf, changed, controlAfter}
 use Rattle.engine.specs.declared.steps.rest.Act.{Act}
 use Rattle.engine.specs.declared.steps.rest.Verdict.{Verdict}
-use Rattle.engine.specs.Calls.{newestOf}
+use Rattle.parts.specs.Calls.{newestOf}
 use Rattle.engine.specs.Inner.Rest.{changeOf, decisionOf}
 
 -- The state s with this timing label and these registers.

@@ -1,9 +1,4 @@
 // A verdict carried out: what it writes to the registers, and the control after it.
-use crate::calls::end_tick;
-use crate::calls::is_empty;
-use crate::calls::kept_pair;
-use crate::calls::newest;
-use crate::calls::return_pc;
 use crate::steps::rest::Act;
 use crate::steps::rest::Verdict;
 use labels::Label;
@@ -11,6 +6,11 @@ use model::Call;
 use model::Control;
 use model::Pair;
 use model::numbers::REGISTER_COUNT;
+use parts::calls::end_tick;
+use parts::calls::is_empty;
+use parts::calls::kept_pair;
+use parts::calls::newest;
+use parts::calls::return_pc;
 ghost use Prim.Native.Nat.{ℕ, _+_, _≤_};
 ghost use mathlib.Core.Path.{_≡_};
 ghost use mathlib.Core.Bool.{cond};
@@ -19,7 +19,7 @@ ghost use Rattle.labels.specs.Label.{flows};
 ghost use Rattle.model.specs.declared.Call.the-variants.{Empty};
 ghost use Rattle.model.specs.Numbers.{mostTicks};
 ghost use Rattle.model.specs.Record.{endTickOf};
-ghost use Rattle.engine.specs.Calls.{newestOf};
+ghost use Rattle.parts.specs.Calls.{newestOf};
 ghost use Rattle.engine.specs.Inner.Rest.{Writes, Held, Admits};
 ghost use Rattle.engine.specs.Inner.Apply.{Labelled, Wrote, controlOf, restoredTo, openedTo, Changed, Controlled};
 

@@ -1,18 +1,18 @@
 // The common ops, 1 to 14, 23 and 24, and the hot loop over them. The loop holds pc, clock and the steps left as locals.
 // It does a common op where that finishes by the deadline: the limit, or the end tick of an upcall that is open. At
 // anything else it stops and says why.
-use crate::word::a_of;
-use crate::word::b_of;
-use crate::word::c_of;
-use crate::word::index;
-use crate::word::n_of;
-use crate::word::op_of;
 use arithmetic::Arithmetic;
 use arithmetic::compute;
 use arithmetic::ticks_of;
 use labels::Label;
 use model::numbers::REGISTER_COUNT;
 use model::numbers::ZERO_REGISTER;
+use parts::word::a_of;
+use parts::word::b_of;
+use parts::word::c_of;
+use parts::word::index;
+use parts::word::n_of;
+use parts::word::op_of;
 ghost use Prim.Native.Nat.{_+_, _≤_, _<_};
 ghost use mathlib.Core.Path.{_≡_};
 ghost use mathlib.Core.Bool.{true, cond, _&&_};

@@ -1,7 +1,4 @@
 // So many steps: the hot loop, then one step of what it stopped at, in turn; or once.
-use crate::calls::end_tick;
-use crate::calls::is_upcall;
-use crate::calls::newest;
 use crate::steps::apply::control_after;
 use crate::steps::apply::control_of;
 use crate::steps::apply::write_back;
@@ -11,13 +8,15 @@ use crate::steps::common::Stop;
 use crate::steps::common::sprint;
 use crate::steps::rest::Verdict;
 use crate::steps::rest::decide;
-use crate::word::RELABEL;
-use crate::word::op_of;
 use model::Call;
 use model::Control;
 use model::Fixed;
 use model::Pair;
 use model::numbers::REGISTER_COUNT;
+use parts::calls::end_tick;
+use parts::calls::is_upcall;
+use parts::calls::newest;
+use parts::word::op_of;
 ghost use Prim.Native.Nat.{_≤_};
 ghost use mathlib.Core.Path.{_≡_};
 ghost use lib.Dec.{ltb};
@@ -25,6 +24,9 @@ ghost use Rattle.model.specs.Numbers.{mostTicks};
 ghost use Rattle.model.specs.Record.{isUpcall, endTickOf};
 ghost use Rattle.engine.specs.Calls.{nearer, deadlineOf};
 ghost use Rattle.engine.specs.Inner.Drive.{contextOf, InRanges, Driven, relabelsAt, endsAt, finishOf};
+
+// The number of the op that relabels.
+pub const RELABEL: u32 = 16;
 
 // The tick by which a common op has to finish.
 pub fn deadline_of(limit: u32, call: Call) -> u32

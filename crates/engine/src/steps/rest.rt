@@ -1,17 +1,6 @@
 // What a step does where the hot loop stopped: the ops 15 to 22, failed fetches, closed upcalls, stalls and spent time.
 // Nothing here changes the machine: each function answers what is to be done.
-use crate::calls::end_tick;
-use crate::calls::is_empty;
-use crate::calls::is_gate;
-use crate::calls::is_upcall;
-use crate::calls::kept_pair;
 use crate::steps::common::Stop;
-use crate::word::a_of;
-use crate::word::b_of;
-use crate::word::c_of;
-use crate::word::d_of;
-use crate::word::index;
-use crate::word::op_of;
 use labels::LABEL_COUNT;
 use labels::Label;
 use model::Call;
@@ -21,6 +10,17 @@ use model::Pair;
 use model::numbers::MOST_GATES;
 use model::numbers::REGISTER_COUNT;
 use model::numbers::ZERO_REGISTER;
+use parts::calls::end_tick;
+use parts::calls::is_empty;
+use parts::calls::is_gate;
+use parts::calls::is_upcall;
+use parts::calls::kept_pair;
+use parts::word::a_of;
+use parts::word::b_of;
+use parts::word::c_of;
+use parts::word::d_of;
+use parts::word::index;
+use parts::word::op_of;
 ghost use Prim.Native.Nat.{_+_, _^_, _≤_, _<_};
 ghost use mathlib.Core.Path.{_≡_};
 ghost use mathlib.Core.Bool.{true, false, not, cond, _&&_};

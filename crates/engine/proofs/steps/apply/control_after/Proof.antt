@@ -5,7 +5,7 @@ use native.Mathlib.Omega.{arith}
 use borrow.Author.Needs.{needs}
 use Rattle.model.specs.Record.{endTickOf}
 use Rattle.model.specs.Step.{controlAfter}
-use Rattle.engine.specs.Calls.{newestOf}
+use Rattle.parts.specs.Calls.{newestOf}
 use Rattle.engine.proofs.Applied.{admits-close, admits-carry, controlled-close, controlled-carry}
 use Rattle.engine.proofs.steps.apply.control_after.Statement.{statement}
 use Rattle.engine.proofs.steps.apply.control_after.Tie as tie

@@ -1,9 +1,9 @@
--- `engine::word::op_of` meets its contract.
+-- `parts::word::op_of` meets its contract.
 -- Assumes nothing.
 use mathlib.Core.Path.{refl}
 use Rattle.model.specs.Word.{opField}
-use Rattle.engine.proofs.word.op_of.Statement.{statement}
-use Rattle.engine.proofs.word.op_of.Tie as tie
+use Rattle.parts.proofs.word.op_of.Statement.{statement}
+use Rattle.parts.proofs.word.op_of.Tie as tie
 
 returns : tie.Need-returns
 unfolding opField

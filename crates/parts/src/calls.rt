@@ -3,7 +3,7 @@ use model::Call;
 use model::Pair;
 ghost use mathlib.Core.Path.{_≡_};
 ghost use Rattle.model.specs.Record.{isEmpty, isGate, isUpcall, pairOf, returnOf, endTickOf};
-ghost use Rattle.engine.specs.Calls.{newestOf};
+ghost use Rattle.parts.specs.Calls.{newestOf};
 
 // The newest of two open calls.
 pub fn newest(first: Call, second: Call) -> Call
@@ -16,7 +16,7 @@ pub fn newest(first: Call, second: Call) -> Call
     }
 }
 
-pub(crate) fn is_empty(call: Call) -> bool
+pub fn is_empty(call: Call) -> bool
     ensures { λ r. ⌜ r ≡ isEmpty call ⌝ }
 {
     match call {
@@ -26,7 +26,7 @@ pub(crate) fn is_empty(call: Call) -> bool
     }
 }
 
-pub(crate) fn is_gate(call: Call) -> bool
+pub fn is_gate(call: Call) -> bool
     ensures { λ r. ⌜ r ≡ isGate call ⌝ }
 {
     match call {
@@ -46,7 +46,7 @@ pub fn is_upcall(call: Call) -> bool
     }
 }
 
-pub(crate) fn end_tick(call: Call) -> u64
+pub fn end_tick(call: Call) -> u64
     ensures { λ r. ⌜ r ≡ endTickOf call ⌝ }
 {
     match call {
@@ -57,7 +57,7 @@ pub(crate) fn end_tick(call: Call) -> u64
 }
 
 // The pair that a call keeps.
-pub(crate) fn kept_pair(call: Call) -> Pair
+pub fn kept_pair(call: Call) -> Pair
     ensures { λ r. ⌜ r ≡ pairOf call ⌝ }
 {
     match call {
@@ -68,7 +68,7 @@ pub(crate) fn kept_pair(call: Call) -> Pair
 }
 
 // Where a call goes on when it closes.
-pub(crate) fn return_pc(call: Call) -> u32
+pub fn return_pc(call: Call) -> u32
     ensures { λ r. ⌜ r ≡ returnOf call ⌝ }
 {
     match call {

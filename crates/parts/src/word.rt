@@ -4,9 +4,6 @@ ghost use mathlib.Core.Path.{_≡_};
 ghost use Rattle.model.specs.Numbers.{registerCount};
 ghost use Rattle.model.specs.Word.{opField, aField, bField, cField, dField, nField};
 
-// The number of the op that relabels.
-pub const RELABEL: u32 = 16;
-
 // The op's number.
 pub fn op_of(w: u32) -> u32
     ensures { λ r. ⌜ r ≡ opField w ⌝ }
@@ -27,20 +24,20 @@ pub fn b_of(w: u32) -> usize
     (w / 65536 % 16) as usize
 }
 
-pub(crate) fn c_of(w: u32) -> usize
+pub fn c_of(w: u32) -> usize
     ensures { λ r. ⌜ (r ≡ cField w) × (r < registerCount) ⌝ }
 {
     (w % 65536 / 4096) as usize
 }
 
-pub(crate) fn d_of(w: u32) -> usize
+pub fn d_of(w: u32) -> usize
     ensures { λ r. ⌜ (r ≡ dField w) × (r < registerCount) ⌝ }
 {
     (w % 65536 / 256 % 16) as usize
 }
 
 // The number n.
-pub(crate) fn n_of(w: u32) -> u32
+pub fn n_of(w: u32) -> u32
     ensures { λ r. ⌜ r ≡ nField w ⌝ }
 {
     w % 65536

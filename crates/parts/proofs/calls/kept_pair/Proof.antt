@@ -1,8 +1,8 @@
--- `engine::calls::kept_pair` meets its contract.
+-- `parts::calls::kept_pair` meets its contract.
 -- Assumes nothing.
 use borrow.Author.Needs.{needs}
-use Rattle.engine.proofs.calls.kept_pair.Statement.{statement}
-use Rattle.engine.proofs.calls.kept_pair.Tie as tie
+use Rattle.parts.proofs.calls.kept_pair.Statement.{statement}
+use Rattle.parts.proofs.calls.kept_pair.Tie as tie
 
 enum-told : tie.Need-enum-told
 enum-told c = search needs

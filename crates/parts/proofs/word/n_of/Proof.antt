@@ -1,9 +1,9 @@
--- `engine::word::n_of` meets its contract.
+-- `parts::word::n_of` meets its contract.
 -- Assumes nothing.
 use mathlib.Core.Path.{refl}
 use Rattle.model.specs.Word.{nField}
-use Rattle.engine.proofs.word.n_of.Statement.{statement}
-use Rattle.engine.proofs.word.n_of.Tie as tie
+use Rattle.parts.proofs.word.n_of.Statement.{statement}
+use Rattle.parts.proofs.word.n_of.Tie as tie
 
 returns : tie.Need-returns
 unfolding nField

@@ -1,10 +1,10 @@
--- `engine::word::a_of` meets its contract.
+-- `parts::word::a_of` meets its contract.
 -- Assumes nothing.
 use mathlib.Core.Path.{refl}
 use borrow.Author.Needs.{needs}
 use Rattle.model.specs.Word.{aField}
-use Rattle.engine.proofs.word.a_of.Statement.{statement}
-use Rattle.engine.proofs.word.a_of.Tie as tie
+use Rattle.parts.proofs.word.a_of.Statement.{statement}
+use Rattle.parts.proofs.word.a_of.Tie as tie
 
 cast-result : tie.Need-cast-result
 cast-result c = search needs

@@ -1,0 +1,3 @@
+// A word of the program taken apart into its fields, and an open call into what it keeps.
+pub mod calls;
+pub mod word;
