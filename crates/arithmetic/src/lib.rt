@@ -2,7 +2,7 @@
 ghost use Prim.Native.Nat.{_≤_};
 ghost use mathlib.Core.Path.{_≡_};
 ghost use Rattle.model.specs.Word.{compute, add, subtract, less as lessThan, multiply, divide, remainder as left};
-ghost use Rattle.model.specs.Ops.{multiplyTicks, arithmeticTicks};
+ghost use Rattle.model.specs.Ops.{multiplyCount, multiplyTicks, arithmeticTicks};
 ghost use Rattle.arithmetic.specs.Arithmetic.{arithmeticOf};
 
 // The ops 2 to 8, 23 and 24.
@@ -20,6 +20,12 @@ pub enum Arithmetic {
 
 // The quotient where the divisor is 0: every bit is set.
 const NO_QUOTIENT: u32 = 4294967295;
+
+// The bits of a value.
+const VALUE_BITS: u32 = 32;
+
+// The count that times op 8 where a factor is hidden: as many bits as the longest value has.
+const HIDDEN_COUNT: u32 = 32;
 
 // The ticks of a division, whoever may see its operands.
 const DIVISION_TICKS: u32 = 34;
@@ -66,15 +72,17 @@ fn remainder(x: u32, y: u32) -> u32
     if y == 0 { x } else { x % y }
 }
 
-// The ticks of op 8 at the factor y.
+// The ticks of op 8 at its second factor y, 2 + ceiling(count / 4): the 2 are eight fourths, and three more round up, so
+// that one sum does both.
 fn multiply_ticks(visible: bool, y: u32) -> u32
-    ensures { λ r. ⌜ (r ≡ multiplyTicks visible y) × (1 ≤ r) × (r ≤ 10) ⌝ }
+    ensures { λ r. ⌜ r ≡ multiplyTicks (multiplyCount visible y) ⌝ }
 {
-    if visible {
-        2 + (32 - u32::leading_zeros(y) + 3) / 4
+    let count = if visible {
+        VALUE_BITS - u32::leading_zeros(y)
     } else {
-        10
-    }
+        HIDDEN_COUNT
+    };
+    (count + 11) / 4
 }
 
 // What an arithmetic op computes.

@@ -6,14 +6,14 @@ use Rattle.labels.specs.Principals.{subset, label, integrity, confidentiality, 
 use Rattle.model.specs.Record.{newest, inUpcall, valueAt, labelAt}
 use Rattle.model.specs.WellFormed.{fixedInRange, endInRange, upcallWellFormed, zeroReads, wellFormed, lentWhole}
 use Rattle.model.specs.Word.{opField, aField, bField, cField, dField, nField, decode, compute}
-use Rattle.model.specs.Ops.{writable, isLabel, significantBits, multiplyTicks, newPairAllowed, mayUpcall, mayCallGate, mayReturn, table}
+use Rattle.model.specs.Ops.{writable, isLabel, significantBits, multiplyCount, multiplyTicks, newPairAllowed, mayUpcall, mayCallGate, mayReturn, table}
 use Rattle.model.specs.Step.{fetch, endTick, finish, fault, attempt, beyondLimit, inLimit, running, decide, written, causeAllowed, causeWrite, writeOf, restored, changed, controlAfter, apply, step, steps, run}
 use lib.Count.{leadingZeros}
 use Rattle.model.specs.Facts.{facts, every}
 
 -- All that a step computes with: the definitions of labels too. Who says `unfolding stepping` opens each of them.
 unfoldable pub stepping : Bool
-unfolding subset label integrity confidentiality flows join meet reflection uncompromised validPair lowest mayRaise mayRelabel newest inUpcall valueAt labelAt fixedInRange endInRange upcallWellFormed zeroReads wellFormed lentWhole opField aField bField cField dField nField decode compute writable isLabel significantBits multiplyTicks newPairAllowed mayUpcall mayCallGate mayReturn table fetch endTick finish fault attempt beyondLimit inLimit running decide written causeAllowed causeWrite writeOf restored changed controlAfter apply step steps run leadingZeros
+unfolding subset label integrity confidentiality flows join meet reflection uncompromised validPair lowest mayRaise mayRelabel newest inUpcall valueAt labelAt fixedInRange endInRange upcallWellFormed zeroReads wellFormed lentWhole opField aField bField cField dField nField decode compute writable isLabel significantBits multiplyCount multiplyTicks newPairAllowed mayUpcall mayCallGate mayReturn table fetch endTick finish fault attempt beyondLimit inLimit running decide written causeAllowed causeWrite writeOf restored changed controlAfter apply step steps run leadingZeros
 stepping = true
 
 -- Every row of the table.

@@ -138,8 +138,7 @@ ticks-long and visible v = lit≤ tt
 ticks-long or visible v = lit≤ tt
 ticks-long xor visible v = lit≤ tt
 ticks-long less visible v = lit≤ tt
-ticks-long multiply true v = omega arith
-ticks-long multiply false v = omega arith
+ticks-long multiply visible v = omega arith
 ticks-long divide visible v = rw (division-ticks visible v .0) (lit≤ tt)
 ticks-long remainder visible v = rw (division-ticks visible v .1) (lit≤ tt)
 

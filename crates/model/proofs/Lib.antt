@@ -11,5 +11,6 @@ pub mod Load
 pub mod Program
 pub mod Facts
 pub mod Noninterference
+pub mod Multiply
 pub mod View
 pub mod Certificate

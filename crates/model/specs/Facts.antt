@@ -1,7 +1,8 @@
--- The starred facts of document 01, "Firings to check", and behind them facts of divisions, as one table: each row is a
--- test of the definitions, and proofs/Facts.antt has the checker compute that all pass.
+-- What the definitions are held against: the starred facts of document 01, "Firings to check", and behind them facts of
+-- divisions, as one table, each row a test that proofs/Facts.antt has the checker compute; and document 01's own rule for
+-- the ticks of op 8, which proofs/Multiply.antt proves of every state.
 -- Assumes nothing.
-use Prim.Native.Nat.{ℕ, zero, suc, _+_, _-_, _*_, _^_}
+use Prim.Native.Nat.{ℕ, zero, suc, _+_, _-_, _*_, _/_, _%_, _^_}
 use mathlib.Core.Bool.{Bool, true, not, _&&_, cond}
 use mathlib.Core.List.{List, [], _∷_}
 use lib.Dec.{eqb}
@@ -10,7 +11,8 @@ use Rattle.labels.specs.Label.{flows, join, meet, uncompromised, mayRaise, mayR
 use Rattle.model.specs.declared.Pair.{Pair}
 use Rattle.model.specs.declared.Call.the-variants.{Empty}
 use Rattle.model.specs.Record.{State, isEmpty, newest, valueAt, register}
-use Rattle.model.specs.Ops.{multiplyTicks, noGate}
+use Rattle.model.specs.Word.{multiply}
+use Rattle.model.specs.Ops.{significantBits, arithmeticTicks, noGate}
 use Rattle.model.specs.Step.{step}
 
 -- ---- a state to try an op in
@@ -69,6 +71,17 @@ spin = wordOf 11 0 0 1
 abbrev pub stop : ℕ
 stop = wordOf 22 0 0 0
 
+-- ---- multiplies
+
+-- The least whole number that is not below n / d.
+abbrev pub ceiling : ℕ → ℕ → ℕ
+ceiling n d = cond (eqb (n % d) 0) (n / d) (n / d + 1)
+
+-- Document 01's own rule: op 8 takes 2 + ceiling(k / 4), k being Rc's significant bits, if Lb and Lc flow to t, else 10.
+-- The machine has one formula in its place and doesn't use this. That both give the same ticks is `multiply-documented`.
+abbrev pub documentTicks : Bool → ℕ → ℕ
+documentTicks visible v = cond visible (2 + ceiling (significantBits v) 4) 10
+
 -- ---- divisions
 
 -- The op of that number, done at clock 10 with x in register 1 and y in register 2, leaves v in register 3 at clock 44.
@@ -98,10 +111,10 @@ facts =
     ∷ mayRelabel 240 255 240
     ∷ not (mayRelabel 0 15 0)
     -- op 8, both labels flowing to t, with Rc 0, 1, 16, 2^32 - 1: 2, 3, 4, 10
-    ∷ eqb (multiplyTicks true 0) 2
-    ∷ eqb (multiplyTicks true 1) 3
-    ∷ eqb (multiplyTicks true 16) 4
-    ∷ eqb (multiplyTicks true (2 ^ 32 - 1)) 10
+    ∷ eqb (arithmeticTicks multiply true 0) 2
+    ∷ eqb (arithmeticTicks multiply true 1) 3
+    ∷ eqb (arithmeticTicks multiply true 16) 4
+    ∷ eqb (arithmeticTicks multiply true (2 ^ 32 - 1)) 10
     -- upcall at clock 10, Ra 20: back at 33, for each cause
     ∷ backAt 20 end 1 33
     ∷ backAt 20 spin 2 33

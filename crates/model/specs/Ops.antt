@@ -76,9 +76,13 @@ isLabel v = ltb v labelCount
 unfoldable pub significantBits : ℕ → ℕ
 significantBits v = 32 - leadingZeros 32 v
 
--- Op 8 takes 2 + ceiling(k / 4), k being Rc's significant bits, if Lb and Lc flow to t, else 10.
-unfoldable pub multiplyTicks : Bool → ℕ → ℕ
-multiplyTicks visible v = cond visible (2 + (significantBits v + 3) / 4) 10
+-- The count that times op 8: Rc's significant bits if Lb and Lc flow to t, else 32.
+unfoldable pub multiplyCount : Bool → ℕ → ℕ
+multiplyCount visible v = cond visible (significantBits v) 32
+
+-- Op 8 takes 2 + ceiling(count / 4). Document 01 has a case of its own for hidden factors, with the same ticks.
+unfoldable pub multiplyTicks : ℕ → ℕ
+multiplyTicks count = 2 + (count + 3) / 4
 
 -- The ticks of the arithmetic ops. A division takes as long whoever may see its operands.
 abbrev pub arithmeticTicks : Arithmetic → Bool → ℕ → ℕ
@@ -88,7 +92,7 @@ arithmeticTicks and visible v = 1
 arithmeticTicks or visible v = 1
 arithmeticTicks xor visible v = 1
 arithmeticTicks less visible v = 1
-arithmeticTicks multiply visible v = multiplyTicks visible v
+arithmeticTicks multiply visible v = multiplyTicks (multiplyCount visible v)
 arithmeticTicks divide visible v = 34
 arithmeticTicks remainder visible v = 34
 
@@ -146,6 +150,10 @@ module _ (s : State) (w : ℕ) where
   abbrev pub Lw : ℕ
   Lw = labelAt s (word Rb)
 
+  -- Lb and Lc both flow to t: the operands may show in the time.
+  abbrev pub visible : Bool
+  visible = flows Lb t && flows Lc t
+
   -- Word Rb is not outside memory.
   abbrev pub inMemory : Bool
   inMemory = ltb Rb (s .fixed .size)
@@ -194,8 +202,7 @@ module _ (s : State) (w : ℕ) where
   unfoldable pub table : Op → Row
   table immediate = row (flows p La && writable (aField w)) (sets (nField w)) 1
   table (arithmetic f) =
-      row (flows (join (join p Lb) Lc) La && writable (aField w)) (sets (compute f Rb Rc))
-      (arithmeticTicks f (flows Lb t && flows Lc t) Rc)
+      row (flows (join (join p Lb) Lc) La && writable (aField w)) (sets (compute f Rb Rc)) (arithmeticTicks f visible Rc)
   table load =
       row (inMemory && flows (join (join p Lb) Lw) La && writable (aField w)) (sets (valueAt s (word Rb))) 3
   table store = row (inMemory && flows (join (join p Lb) La) Lw) (does (write (value (word Rb) Ra))) 3

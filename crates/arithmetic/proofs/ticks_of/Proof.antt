@@ -2,6 +2,8 @@
 -- Assumes nothing.
 use native.Mathlib.Omega.{arith}
 use borrow.Author.Needs.{needs}
+use Rattle.model.specs.Ops.{multiplyTicks}
+use Rattle.model.proofs.Multiply.{count-le}
 use Rattle.arithmetic.proofs.ticks_of.Statement.{statement}
 use Rattle.arithmetic.proofs.ticks_of.Tie as tie
 
@@ -54,7 +56,11 @@ returns-6 : tie.Need-returns-6
 returns-6 c = search needs
 
 returns-7 : tie.Need-returns-7
-returns-7 c = (rw (c .before .enum-told7 .given .1) (c .multiply-ticks .ensures .0), omega (arith, c .multiply-ticks .ensures .2))
+unfolding multiplyTicks
+returns-7 c = (
+  rw (c .before .enum-told7 .given .1) (c .multiply-ticks .ensures),
+  rw (c .multiply-ticks .ensures) (omega (arith, count-le (c .before .before .before .args .visible) (c .before .before .before .args .y))),
+)
 
 returns-8 : tie.Need-returns-8
 returns-8 c = search needs

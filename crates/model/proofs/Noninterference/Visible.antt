@@ -16,7 +16,7 @@ use Rattle.labels.proofs.Laws.{join-flows}
 use Rattle.model.specs.declared.Control.{Control}
 use Rattle.model.specs.Record.{State, Location, register, word, valueAt, labelAt, inUpcall}
 use Rattle.model.specs.Word.{Arithmetic, add, subtract, and, or, xor, less, multiply, divide, remainder, Op, immediate, arithmetic, load, store, branch, jump, readClock, setLabel, setPair, upcall, endUpcall, gateCall, gateReturn, halt, aField, bField, cField, dField, nField, decode, opField}
-use Rattle.model.specs.Ops.{Write, nothing, value, label, write, goto, enter, openUpcall, openGate, closeGate, stop, Effect, does, ends, Row, row, noGate, newPairAllowed, mayUpcall, mayCallGate, mayReturn, multiplyTicks, arithmeticTicks, Rb, gate, table}
+use Rattle.model.specs.Ops.{Write, nothing, value, label, write, goto, enter, openUpcall, openGate, closeGate, stop, Effect, does, ends, Row, row, noGate, newPairAllowed, mayUpcall, mayCallGate, mayReturn, multiplyCount, multiplyTicks, arithmeticTicks, Rb, Rc, visible, gate, table}
 use Rattle.model.specs.Step.{Fetched, failed, fetched, known, fetchAllowed, fetch, Decision, rest, spend, stall, close, carry, endTick, finish, fault, attempt, inTime, plan, beyondLimit, inLimit, running, decide, causeAllowed, causeWrite, writeOf, written, withControl, changed, controlAfter, apply, step}
 use Rattle.model.specs.Seen.{within, exists}
 use Rattle.model.specs.Noninterference.{SameSetting, StepProvisos, downgrades}
@@ -323,11 +323,25 @@ module _ {ℓ : ℕ} {c : Control} {a b : State} (h : Together ℓ c a b) where
         back = write-there (together-sym h) check′ x′ ticks′ (row check (does (write x)) ticks) g;
       }
 
-  -- The ticks of op 8: what decides them flows to t.
-  multiply-same : (v v′ : Bool) (x x′ : ℕ) → v ≡ v′ → (v ≡ true → x ≡ x′) → multiplyTicks v x ≡ multiplyTicks v′ x′
-  unfolding multiplyTicks
+  -- Whether the operands may show in the time is the same in both.
+  visible-same : (w : ℕ) → visible (withControl a c) w ≡ visible (withControl b c) w
+  visible-same w =
+      cc (
+        flows-alike (h .alike) (h .timing) (register (bField w)) (b-exists (withControl a c) w),
+        flows-alike (h .alike) (h .timing) (register (cField w)) (c-exists (withControl a c) w),
+      )
+
+  -- Where they may, the second one is the same.
+  visible-equal : (w : ℕ) → visible (withControl a c) w ≡ true → Rc (withControl a c) w ≡ Rc (withControl b c) w
+  visible-equal w e =
+      let k = simp and-iff at e in
+      flows-equal (h .alike) (h .timing) (register (cField w)) (c-exists (withControl a c) w) (k .1) .1
+
+  -- The count that times op 8: what decides it flows to t.
+  multiply-same : (v v′ : Bool) (x x′ : ℕ) → v ≡ v′ → (v ≡ true → x ≡ x′) → multiplyCount v x ≡ multiplyCount v′ x′
+  unfolding multiplyCount
   multiply-same true v′ x x′ e f = rw (← e, f refl)
-  multiply-same false v′ x x′ e f = ap (λ (b : Bool). multiplyTicks b x′) e
+  multiply-same false v′ x x′ e f = ap (λ (b : Bool). multiplyCount b x′) e
 
   -- The ticks of the arithmetic ops.
   ticks-same : (f : Arithmetic) (v v′ : Bool) (x x′ : ℕ) → v ≡ v′ → (v ≡ true → x ≡ x′)
@@ -338,7 +352,7 @@ module _ {ℓ : ℕ} {c : Control} {a b : State} (h : Together ℓ c a b) where
   ticks-same or v v′ x x′ e g = refl
   ticks-same xor v v′ x x′ e g = refl
   ticks-same less v v′ x x′ e g = refl
-  ticks-same multiply v v′ x x′ e g = multiply-same v v′ x x′ e g
+  ticks-same multiply v v′ x x′ e g = ap multiplyTicks (multiply-same v v′ x x′ e g)
   ticks-same divide v v′ x x′ e g = division-ticks v x .0 ∙ sym (division-ticks v′ x′ .0)
   ticks-same remainder v v′ x x′ e g = division-ticks v x .1 ∙ sym (division-ticks v′ x′ .1)
 
@@ -363,13 +377,8 @@ module _ {ℓ : ℕ} {c : Control} {a b : State} (h : Together ℓ c a b) where
   unfolding table
   row-similar w immediate = similar-write _ _ _ _ _ _ refl (row-equal h w immediate) (row-back w immediate)
   row-similar w (arithmetic f) =
-      similar-write _ _ _ _ _ _
-      (ticks-same f _ _ _ _
-      (ap₂ (λ (x y : Bool). x && y)
-      (flows-alike (h .alike) (h .timing) (register (bField w)) (b-exists _ w))
-      (flows-alike (h .alike) (h .timing) (register (cField w)) (c-exists _ w)))
-      (λ e. let k = simp and-iff at e in flows-equal (h .alike) (h .timing) (register (cField w)) (c-exists _ w) (k .1) .1))
-      (row-equal h w (arithmetic f)) (row-back w (arithmetic f))
+      similar-write _ _ _ _ _ _ (ticks-same f _ _ _ _ (visible-same w) (visible-equal w)) (row-equal h w (arithmetic f))
+      (row-back w (arithmetic f))
   row-similar w load = similar-write _ _ _ _ _ _ refl (row-equal h w load) (row-back w load)
   row-similar w store = similar-write _ _ _ _ _ _ refl (row-equal h w store) (row-back w store)
   row-similar w (branch f) = steers w (branch f) refl refl tt tt
