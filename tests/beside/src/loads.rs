@@ -8,6 +8,8 @@ use crate::calls::{answer, Calls, MEMORY_SHORT, SHORT_BUFFER};
 use crate::certificate;
 use crate::layout::{at, SPAN};
 use crate::trials::{Call, Due, Lending, Trials, LENDINGS};
+use interpreter::certificate::cause;
+use interpreter::draft::Draft;
 use interpreter::generator::census::Census;
 use interpreter::generator::compose::compose;
 use interpreter::generator::damage::{damage, PLANS};
@@ -35,6 +37,11 @@ const ZERO_REGISTER_SET: u64 = 9;
 /// so that their number must not be a multiple of it, or some never come up.
 const GOOD_EVERY: usize = 3;
 const _: () = assert!(!PLANS.len().is_multiple_of(GOOD_EVERY));
+
+/// Few runs try a release: in so many of a hundred turns with a good text, up to so
+/// many are tried for one to certify that does.
+const RELEASING_CHANCE: u32 = 10;
+const RELEASING_TRIES: u32 = 12;
 
 /// The orders between two refusals that such a call can show and the program
 /// can't, for it always lends enough.
@@ -141,6 +148,26 @@ fn text(random: &mut Random, turn: usize) -> Text {
     Text::damaged(random, turn)
 }
 
+/// A text to certify: such a one, or a good one that tries a release at its clock
+/// label.
+fn text_to_certify(random: &mut Random, turn: usize) -> Text {
+    let is_releasing = turn.is_multiple_of(GOOD_EVERY) && random.chance(RELEASING_CHANCE);
+    let tries = if is_releasing { RELEASING_TRIES } else { 0 };
+    let drafts = (0..tries).map(|_| compose(random, &Census::new()));
+    let releasing = drafts.filter(tries_release).map(|draft| draft.text()).next();
+    match releasing {
+        Some(bytes) => Text { bytes, number: 0, line: 0 },
+        None => text(random, turn),
+    }
+}
+
+/// Whether an image's certificate at its clock label is an attempt to release.
+fn tries_release(draft: &Draft) -> bool {
+    let (mut machine, mut words, labels) = draft.loaded();
+    let certificate = machine.certify(draft.pair.timing, &mut words, &labels);
+    certificate.is_ok_and(|certificate| certificate.cause == cause::RELEASE)
+}
+
 /// A number of the first line, by its field, if it is one of this range.
 fn first_line(text: &[u8], field: usize, range: RangeInclusive<usize>) -> Option<usize> {
     let field = text.split(|&byte| byte == b',' || byte == b'\n').nth(field)?;
@@ -183,7 +210,7 @@ pub fn try_load(trials: &mut Trials, random: &mut Random, turn: usize) {
 
 /// One certificate, at any label: its cause, where the text is not refused.
 pub fn try_certify(trials: &mut Trials, random: &mut Random, turn: usize) -> Option<u64> {
-    let text = text(random, turn);
+    let text = text_to_certify(random, turn);
     let (lent, due) = CERTIFY.lend(trials, random, &text);
     let level = choose_level(random, &text.bytes);
     let name = format!("certify at {} of\n{}", level.0, String::from_utf8_lossy(&text.bytes));

@@ -188,7 +188,9 @@ impl Machine {
     }
 
     /// "Op 8 takes 2 + ceiling(k / 4), k being Rc's significant bits, if Lb and
-    /// Lc flow to t, else 10."
+    /// Lc flow to t, else 10." A later request has one formula of a count, "with 32
+    /// for the count where Lb or Lc doesn't flow to t", and lets every duration
+    /// remain: the first words stay here, so that a comparison shows whether they do.
     fn multiply_ticks(&self, i: Instruction) -> u64 {
         let (left, right) = (self.registers[i.b()], self.registers[i.c()]);
         let timing = self.pair.timing;

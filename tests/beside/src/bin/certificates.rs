@@ -15,6 +15,7 @@ use beside::pairs::check::{compare, unreached};
 use beside::pairs::divisions;
 use beside::pairs::hidden::{came, Came};
 use beside::pairs::make::Pair;
+use beside::pairs::multiplies;
 use beside::pairs::provisos::{both, bounds, Bounds};
 use beside::pairs::trace::{trace, Trace};
 use beside::tally::Tally;
@@ -102,6 +103,7 @@ fn expected(is_library: bool) -> Vec<String> {
     let mut names = EXPECTED.map(str::to_string).to_vec();
     names.extend(CAME.map(|(_, name)| name.to_string()));
     names.extend(divisions::expected().iter().map(|name| certified(name)));
+    names.extend(multiplies::expected().iter().map(|name| certified(name)));
     names.extend(CAUSES.map(|cause| format!("pairs with {cause}")));
     names.extend(CAUSES[1..].iter().map(|cause| differ(cause)));
     if is_library {
@@ -245,7 +247,9 @@ impl Tried {
         let name = "certified to the end: pairs alike to the last tick though their ends differ";
         tally.count_if(apart, name);
         let divided = divisions::met(*level, one, other, bound);
-        divided.iter().for_each(|name| tally.count(&certified(name)));
+        let multiplied = multiplies::met(*level, one, other, bound);
+        let met = divided.iter().chain(&multiplied);
+        met.for_each(|name| tally.count(&certified(name)));
     }
 
     /// A pair with a break: what went before, whether the two differ from there

@@ -11,6 +11,7 @@ use beside::pairs::check::{compare, unreached};
 use beside::pairs::divisions;
 use beside::pairs::hidden::{came, came_over_gate, Came};
 use beside::pairs::make::Pair;
+use beside::pairs::multiplies;
 use beside::pairs::provisos::{both, bounds, first_broken, Bounds, NAMES};
 use beside::pairs::seen::are_alike;
 use beside::pairs::trace::{trace, Trace};
@@ -66,6 +67,7 @@ fn main() -> ExitCode {
     let mut expected = EXPECTED.map(str::to_string).to_vec();
     expected.extend(views::EXPECTED.map(str::to_string));
     expected.extend(divisions::expected());
+    expected.extend(multiplies::expected());
     expected.extend(CAME.map(|(_, name)| name.to_string()));
     expected.extend(NAMES.map(cut_off));
     expected.extend(NAMES.map(differs));
@@ -149,6 +151,7 @@ impl Trial<'_> {
         let apart = all && ended == (true, true) && ends.0 != ends.1;
         tally.count_if(apart, "pairs alike to the last tick though their ends differ");
         divisions::met(level, one, other, bound).iter().for_each(|name| tally.count(name));
+        multiplies::met(level, one, other, bound).iter().for_each(|name| tally.count(name));
     }
 
     /// Counts which provisos cut the comparison off, and whether the pair

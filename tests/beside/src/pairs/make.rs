@@ -49,16 +49,19 @@ struct Levels {
     callers: Vec<Label>,
     /// The labels to which it lowers a register.
     lowered: Vec<Label>,
-    /// The clock labels under which it divides what is hidden from them.
+    /// The clock labels under which it divides, and under which it multiplies, what
+    /// is hidden from them.
     dividing: Vec<Label>,
+    multiplying: Vec<Label>,
 }
 
 /// An image and a label at which something is hidden that its run comes by.
 fn choose(random: &mut Random) -> (Draft, Label) {
-    let (tries, wanted): (u32, fn(&Levels) -> &[Label]) = match random.below(10) {
-        0..=5 => (TRIES, |levels| &levels.callers),
-        6 | 7 => (TRIES, |levels| &levels.lowered),
-        8 => (TRIES, |levels| &levels.dividing),
+    let (tries, wanted): (u32, fn(&Levels) -> &[Label]) = match random.below(20) {
+        0..=9 => (TRIES, |levels| &levels.callers),
+        10..=14 => (TRIES, |levels| &levels.lowered),
+        15 | 16 => (TRIES, |levels| &levels.dividing),
+        17 => (TRIES, |levels| &levels.multiplying),
         _ => (0, |_| &[]),
     };
     for _ in 0..tries {
@@ -95,13 +98,13 @@ fn hidden_from(before: &Machine, after: &Machine) -> Option<Label> {
     (!is_within(after.pair.pc, caller)).then_some(caller)
 }
 
-/// The clock label where the word at the pc divides what that label doesn't see.
-fn divides_from(machine: &Machine, words: &[u32]) -> Option<Label> {
+/// Whether the word at the pc names an operand, Rb or Rc, that the clock label
+/// doesn't see; its op, if so.
+fn op_on_hidden(machine: &Machine, words: &[u32]) -> Option<u8> {
     let i = Instruction(*words.get(machine.pc as usize)?);
-    let timing = machine.pair.timing;
     let operands = [i.b(), i.c()].map(|number| machine.registers[number].label);
-    let is_hidden = operands.iter().any(|&label| !is_within(label, timing));
-    (divides(i.op()) && is_hidden).then_some(timing)
+    let is_hidden = operands.iter().any(|&label| !is_within(label, machine.pair.timing));
+    is_hidden.then_some(i.op())
 }
 
 /// Runs the image and notes the levels.
@@ -110,7 +113,11 @@ fn watch(draft: &Draft) -> Levels {
     let mut levels = Levels::default();
     while machine.end == end::RUNNING {
         let before = machine.clone();
-        levels.dividing.extend(divides_from(&before, &words));
+        match op_on_hidden(&before, &words) {
+            Some(op::MULTIPLY) => levels.multiplying.push(before.pair.timing),
+            Some(number) if divides(number) => levels.dividing.push(before.pair.timing),
+            _ => {}
+        }
         machine.step(&mut words, &labels).expect("a loaded record stays fit");
         levels.callers.extend(hidden_from(&before, &machine));
         let registers = before.registers.iter().zip(&machine.registers);

@@ -10,6 +10,8 @@ pub mod check;
 pub mod divisions;
 pub mod hidden;
 pub mod make;
+pub mod multiplies;
+pub mod operands;
 pub mod provisos;
 pub mod seen;
 pub mod trace;

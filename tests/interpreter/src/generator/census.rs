@@ -5,6 +5,7 @@
 use super::damage::PLANS;
 use super::division;
 use super::faults::FAULTS;
+use super::multiply::Multiplies;
 use super::on_zero::writes;
 use crate::instruction::op;
 use crate::machine::{Call, Machine};
@@ -17,7 +18,7 @@ pub const CONTEXTS: [&str; 4] =
 
 /// Everything besides the ops that a run can meet. All are listed, so that one
 /// that is never met shows up with the count 0.
-const NOTES: [&str; 89] = [
+const NOTES: [&str; 88] = [
     "end 1 with no call open",
     "end 1 with a gate call open",
     "end 2 with no call open",
@@ -86,7 +87,6 @@ const NOTES: [&str; 89] = [
     "op from a word that the upcall's caller can't fetch",
     "op from a word that the program rewrote",
     "ops 15 to 18 with a value above 255",
-    "op 8 with a factor hidden from t",
     "gate call fails: no such gate",
     "gate call fails: its pair is not valid",
     "gate call fails: its labels don't flow to p",
@@ -123,6 +123,7 @@ pub struct Census {
     undone: [[u64; 2]; op::TABLE],
     /// By op: what one met that would write or relabel register 0.
     on_zero: [[u64; ON_ZERO.len()]; op::TABLE],
+    pub multiplies: Multiplies,
     notes: BTreeMap<&'static str, u64>,
     /// What no run should meet.
     strange: BTreeMap<String, u64>,
@@ -231,7 +232,8 @@ impl Census {
         let damages = plans.chain(faults).map(|name| (name, 0)).collect();
         let (ops, undone) = ([[[0; 2]; op::TABLE]; 4], [[0; 2]; op::TABLE]);
         let on_zero = [[0; ON_ZERO.len()]; op::TABLE];
-        Census { ops, undone, on_zero, notes, strange: BTreeMap::new(), damages }
+        let (multiplies, strange) = (Multiplies::new(), BTreeMap::new());
+        Census { ops, undone, on_zero, multiplies, notes, strange, damages }
     }
 
     /// Adds what one image has met: each kind once, however often it came up.
@@ -244,6 +246,7 @@ impl Census {
         sums.zip(seen.undone.iter().flatten()).for_each(|(sum, count)| *sum += (*count).min(1));
         let sums = self.on_zero.iter_mut().flatten();
         sums.zip(seen.on_zero.iter().flatten()).for_each(|(sum, count)| *sum += (*count).min(1));
+        self.multiplies.add_image(&seen.multiplies);
         let sums = self.notes.values_mut();
         sums.zip(seen.notes.values()).for_each(|(sum, count)| *sum += (*count).min(1));
         seen.strange.keys().for_each(|name| *self.strange.entry(name.clone()).or_insert(0) += 1);
@@ -305,6 +308,7 @@ impl Census {
         unmet.extend(damages.map(|(name, _)| name.clone()));
         unmet.extend(op::KNOWN.flat_map(|number| self.unmet_of_op(number)));
         unmet.extend(op::KNOWN.flat_map(|number| self.unmet_on_zero(number)));
+        unmet.extend(self.multiplies.unmet());
         unmet
     }
 
@@ -377,10 +381,11 @@ impl fmt::Display for Census {
         writeln!(out, "was late, was barred, and was stopped by nothing but register 0")?;
         let writers = op::KNOWN.filter(|&number| writes(number));
         let rows: String = writers.map(|number| self.row_on_zero(number)).collect();
+        write!(out, "{rows}{}", self.multiplies)?;
         let notes: String = notes().map(|name| format!("{name}: {}\n", self.notes[name])).collect();
         let damages: String =
             self.damages.iter().map(|(name, count)| format!("{name}: {count}\n")).collect();
-        writeln!(out, "{rows}{notes}{damages}kinds met that can't be: {:?}", self.strange())?;
+        writeln!(out, "{notes}{damages}kinds met that can't be: {:?}", self.strange())?;
         writeln!(out, "kinds never met: {:?}", self.unmet())
     }
 }

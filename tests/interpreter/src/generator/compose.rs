@@ -7,7 +7,7 @@
 //! out is the image from which the machine would have run the same way.
 
 use super::census::{context, is_possible, Census, OnZero, Undone};
-use super::division::{divides, divides_at_edge, has_time};
+use super::division::{divides, has_time, Edge};
 use super::labels;
 use super::on_zero::{is_on_zero, is_stopped_alone, with_a, writes};
 use super::random::Random;
@@ -33,9 +33,12 @@ const ON_ZERO_TRIES: u32 = 6;
 /// many of a hundred words only: it would close most upcalls before much is done.
 const LATE_DIVISION_CHANCE: u32 = 10;
 
-/// So many of a hundred divisions shall be by 1, by 2^32 - 1, or of a number that
-/// would be negative if it had a sign: few registers hold these.
-const EDGE_DIVISION_CHANCE: u32 = 50;
+/// So many of a hundred divisions shall meet an edge.
+const EDGE_DIVISION_CHANCE: u32 = 75;
+
+/// So many of a hundred multiplies are chosen by what decides their ticks, the
+/// rarer so far the likelier.
+const TIMED_MULTIPLY_CHANCE: u32 = 80;
 
 /// A program being written and run at once.
 struct Writer {
@@ -152,14 +155,18 @@ impl Writer {
         let (number, passed) = self.wanted_kind(random, census);
         let pc = self.machine.pc as usize;
         let before = self.words[pc];
-        let is_edge = divides(number) && random.chance(EDGE_DIVISION_CHANCE);
+        let is_at_edge = divides(number) && random.chance(EDGE_DIVISION_CHANCE);
+        let edge = is_at_edge.then(|| random.pick(&Edge::ALL));
+        let is_timed = number == op::MULTIPLY && random.chance(TIMED_MULTIPLY_CHANCE);
+        let timed = is_timed.then(|| census.multiplies.wanted(random, &self.machine, passed));
         for _ in 0..TRIES {
             let word = word_of(random, number, self.machine.pc, self.machine.size);
+            let word = timed.map_or(word, |timed| timed.with_factors(random, &self.machine, word));
+            let word = edge.map_or(word, |edge| edge.with_operands(random, &self.machine, word));
             self.words[pc] = word;
             let (has_passed, next) = self.try_step();
             let is_new = self.decided.get(next as usize) == Some(&false);
-            let is_wanted = !is_edge || divides_at_edge(&self.machine, Instruction(word));
-            let leads_on = is_new && is_wanted && self.is_of_interest(Instruction(word), passed);
+            let leads_on = is_new && self.is_of_interest(Instruction(word), passed);
             let stays = is_on_zero(Instruction(word));
             if has_passed == passed && !stays && (leads_on || random.chance(10)) {
                 break;
@@ -214,6 +221,7 @@ impl Writer {
             (1, 30..=34) => return (op::SET_PAIR, true),
             (1, 35..=39) => return (op::GATE_RETURN, false),
             (2 | 3, 30..=34) => return (op::END_UPCALL, true),
+            (_, 40..=46) => return (op::MULTIPLY, random.chance(50)),
             _ => {}
         }
         let any = self.takes_divisions(random);

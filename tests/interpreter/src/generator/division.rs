@@ -1,8 +1,10 @@
 //! Divisions, ops 23 and 24: what they can meet besides what every op can.
 
 use super::census::Census;
+use super::random::Random;
+use super::words::with_operands;
 use crate::instruction::{op, Instruction};
-use crate::machine::{Machine, ZERO_REGISTER};
+use crate::machine::{Machine, Register, ZERO_REGISTER};
 use crate::step::{Event, DIVISION_TICKS};
 
 /// All that must come up, of each of the two.
@@ -47,10 +49,30 @@ pub fn divides(number: u8) -> bool {
 /// From here on a value with a sign would be negative.
 pub const NEGATIVE: u32 = 1 << 31;
 
-/// Whether a division is by 1 or by the largest number, or of a large one.
-pub fn divides_at_edge(machine: &Machine, i: Instruction) -> bool {
-    let (dividend, divisor) = (machine.registers[i.b()].value, machine.registers[i.c()].value);
-    matches!(divisor, 1 | u32::MAX) || dividend >= NEGATIVE
+/// What few registers hold, and a division shall often meet.
+#[derive(Clone, Copy, Debug, PartialEq, Eq)]
+pub enum Edge {
+    /// The divisor 0.
+    Zero,
+    /// The divisor 1 or 2^32 - 1.
+    Divisor,
+    /// A dividend that would be negative, over any other divisor.
+    Dividend,
+}
+
+impl Edge {
+    pub const ALL: [Edge; 3] = [Edge::Zero, Edge::Divisor, Edge::Dividend];
+
+    /// The word with operands that meet it, as far as there are any.
+    pub fn with_operands(self, random: &mut Random, machine: &Machine, word: u32) -> u32 {
+        let is_dividend = |dividend: Register| self != Edge::Dividend || dividend.value >= NEGATIVE;
+        let is_divisor = |divisor: Register| match divisor.value {
+            0 => self == Edge::Zero,
+            1 | u32::MAX => self == Edge::Divisor,
+            _ => self == Edge::Dividend,
+        };
+        with_operands(random, machine, word, is_dividend, is_divisor)
+    }
 }
 
 /// Whether a division can finish by the end tick; outside an upcall it can.

@@ -7,6 +7,7 @@ pub mod damage;
 pub mod division;
 pub mod faults;
 pub mod labels;
+pub mod multiply;
 mod on_zero;
 pub mod random;
 mod start;

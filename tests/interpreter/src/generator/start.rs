@@ -3,6 +3,7 @@
 
 use super::division::NEGATIVE;
 use super::labels;
+use super::multiply::factor;
 use super::random::Random;
 use super::words::any_word;
 use crate::draft::Draft;
@@ -79,8 +80,8 @@ fn higher_pair(random: &mut Random, pair: Pair) -> Pair {
 }
 
 /// Puts into registers of low labels what upcalls, gate calls, op 17, divisions
-/// and a program that rewrites itself need, and gives register 15 a label at which
-/// causes mostly arrive.
+/// and a program that rewrites itself need, into the others factors, and gives
+/// register 15 a label at which causes mostly arrive.
 fn lay_out_tools(random: &mut Random, draft: &mut Draft, high: Pair) {
     let size = draft.words.len() as u32;
     let higher = higher_pair(random, high);
@@ -98,18 +99,30 @@ fn lay_out_tools(random: &mut Random, draft: &mut Draft, high: Pair) {
         (NEGATIVE | random.bits(), random.pick(&[1, 1, 2, 3, 1_000, u32::MAX]));
     let labels = [high.pc, high.timing, higher.pc, higher.timing, draft.pair.pc];
     let labels = labels.map(|label| u32::from(label.0));
-    let first = random.index(TOOLS.len());
     let values = [time, back, gate, target, code, dividend, divisor];
-    for (offset, value) in values.into_iter().chain(labels).enumerate() {
-        let label = if random.chance(75) { Label::LOWEST } else { draft.pair.pc };
-        draft.register(TOOLS.start + (first + offset) % TOOLS.len(), label.0, value);
-    }
+    let tools: Vec<u32> = values.into_iter().chain(labels).collect();
+    set_tools(random, draft, &tools);
     draft.registers[STATUS].label = match random.below(10) {
         0..=2 => high.timing,
         3..=5 => labels::above(random, high.timing),
         6 => higher.timing,
         _ => draft.registers[STATUS].label,
     };
+}
+
+/// Gives the tools to registers that follow one another. What is left gets factors
+/// for op 8 and keeps its labels, so that these are in sight or hidden.
+fn set_tools(random: &mut Random, draft: &mut Draft, tools: &[u32]) {
+    let first = random.index(TOOLS.len());
+    for offset in 0..TOOLS.len() {
+        let number = TOOLS.start + (first + offset) % TOOLS.len();
+        let Some(&value) = tools.get(offset) else {
+            draft.registers[number].value = factor(random);
+            continue;
+        };
+        let label = if random.chance(75) { Label::LOWEST } else { draft.pair.pc };
+        draft.register(number, label.0, value);
+    }
 }
 
 /// A place, mostly in memory, now and then just behind it or anywhere.

@@ -71,6 +71,7 @@ fn watch_step(census: &mut Census, watched: &mut Watched) {
     moment.count_lateness(census, event);
     moment.count_operands(census);
     moment.count_division(census, event);
+    moment.count_multiply(census, event);
     moment.count_zero_sources(census, event);
     let stored = moment.count_passed(census, event, &watched.machine);
     if let Some(address) = stored {
@@ -274,11 +275,6 @@ impl Moment {
                 let large = registers[i.b()].value > 255 || takes_c && registers[i.c()].value > 255;
                 census.note_if(large, "ops 15 to 18 with a value above 255");
             }
-            op::MULTIPLY => {
-                let hidden = |r: usize| !registers[r].label.flows_to(self.before.pair.timing);
-                let timed = hidden(i.b()) || hidden(i.c());
-                census.note_if(timed, "op 8 with a factor hidden from t");
-            }
             op::GATE_CALL if context(&self.before) == 0 => self.count_gate_call(census, i),
             _ => {}
         }
@@ -291,6 +287,13 @@ impl Moment {
         };
         let division = Division { before: &self.before, instruction, finish };
         division.count(census, event);
+    }
+
+    /// Counts what decides the ticks of a multiply.
+    fn count_multiply(&self, census: &mut Census, event: Event) {
+        if let Some((instruction, _)) = self.op {
+            census.multiplies.count(&self.before, instruction, event);
+        }
     }
 
     /// Counts the reasons, all that hold, for which a gate call fails with no

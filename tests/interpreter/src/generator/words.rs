@@ -1,8 +1,8 @@
-//! Instruction words drawn at random, for a given op or any.
+//! Instruction words drawn at random, for a given op or any, and registers for them.
 
 use super::random::Random;
-use crate::instruction::{encode, op};
-use crate::machine::ZERO_REGISTER;
+use crate::instruction::{encode, op, Instruction};
+use crate::machine::{Machine, Register, ZERO_REGISTER};
 
 /// In so many of a hundred cases a register that an op reads is register 0.
 const ZERO_CHANCE: u32 = 12;
@@ -46,4 +46,29 @@ fn source(random: &mut Random) -> u32 {
     } else {
         random.below(16)
     }
+}
+
+/// The word with such registers for b and for c, if there are any.
+pub fn with_operands(
+    random: &mut Random,
+    machine: &Machine,
+    word: u32,
+    is_left: impl Fn(Register) -> bool,
+    is_right: impl Fn(Register) -> bool,
+) -> u32 {
+    let i = Instruction(word);
+    let b = any_register(random, machine, is_left).unwrap_or(i.b());
+    let c = any_register(random, machine, is_right).unwrap_or(i.c());
+    word & !(15 << 16 | 15 << 12) | (b as u32) << 16 | (c as u32) << 12
+}
+
+/// The number of a register of the wanted kind, if there is one.
+fn any_register(
+    random: &mut Random,
+    machine: &Machine,
+    is_wanted: impl Fn(Register) -> bool,
+) -> Option<usize> {
+    let numbers = 0..machine.registers.len();
+    let wanted: Vec<usize> = numbers.filter(|&at| is_wanted(machine.registers[at])).collect();
+    (!wanted.is_empty()).then(|| random.pick(&wanted))
 }
