@@ -1,34 +1,17 @@
 //! Which multiplies count as those in visible time on a hidden factor of other ticks:
 //! a count that took in others would not say that these were tried.
 
+mod common;
+
 use beside::pairs::multiplies::{expected, met};
-use beside::pairs::seen::State;
-use beside::pairs::trace::Trace;
+use common::{on_hidden, trace, BOUND, LEVEL};
 use interpreter::draft::Draft;
 use interpreter::instruction::{encode_registers, op};
 use interpreter::{Label, Pair};
 
-/// The level of all these: what is labelled 240 is seen, 255 is not.
-const LEVEL: Label = Label(240);
-
-/// All that is tried here ends before it.
-const BOUND: u64 = 1_000;
-
 /// R1 := R2 × R3; register 1 and the factors are hidden.
 fn image(left: u32, right: u32) -> Draft {
-    let mut draft = Draft::of_code(&[encode_registers(op::MULTIPLY, 1, 2, 3, 0)], 100);
-    draft.register(1, 255, 77);
-    draft.register(2, 255, left);
-    draft.register(3, 255, right);
-    draft
-}
-
-/// The loaded state and the one after a step.
-fn trace(draft: &Draft) -> Trace {
-    let (mut machine, mut words, labels) = draft.loaded();
-    let before = State { machine: machine.clone(), words: words.clone(), labels: labels.clone() };
-    machine.step(&mut words, &labels).unwrap();
-    Trace { states: vec![before, State { machine, words, labels }] }
+    on_hidden(op::MULTIPLY, left, right)
 }
 
 /// The ends of the names that two images meet.
