@@ -6,7 +6,7 @@ use mathlib.Core.Bool.{true, cond, false≢true}
 use native.Mathlib.Omega.{arith}
 use lib.Dec.{eqb}
 use Rattle.causes.specs.declared.Cause.{Cause}
-use Rattle.causes.specs.declared.Cause.the-variants.{TextLength, MalformedLine, OutOfRange, OutOfOrder, InvalidPair, ShortMemory, IllFormed, ShortOutput, ZeroRegister, TickAboveLimit}
+use Rattle.causes.specs.declared.Cause.the-variants.{TextLength, MalformedLine, OutOfRange, OutOfOrder, InvalidPair, ShortMemory, IllFormed, ShortOutput, ZeroRegister, TickAboveLimit, MalformedRecord, MisplacedByte}
 use Rattle.causes.specs.declared.Outcome.{Outcome}
 use Rattle.causes.specs.declared.Outcome.the-variants.{Done, Refused}
 use Rattle.causes.specs.Causes.{numberOf, isDone}
@@ -22,7 +22,10 @@ outcomeOf n =
     (cond (eqb n 5) (Refused InvalidPair)
     (cond (eqb n 6) (Refused ShortMemory)
     (cond (eqb n 7) (Refused IllFormed)
-    (cond (eqb n 8) (Refused ShortOutput) (cond (eqb n 9) (Refused ZeroRegister) (Refused TickAboveLimit))))))))))
+    (cond (eqb n 8) (Refused ShortOutput)
+    (cond (eqb n 9) (Refused ZeroRegister)
+    (cond (eqb n 10) (Refused TickAboveLimit)
+    (cond (eqb n 11) (Refused MalformedRecord) (Refused MisplacedByte))))))))))))
 
 -- Every outcome is the one of its number.
 outcome-of-number : (o : Outcome) → outcomeOf (numberOf o) ≡ o
@@ -38,6 +41,8 @@ outcome-of-number (Refused IllFormed) = refl
 outcome-of-number (Refused ShortOutput) = refl
 outcome-of-number (Refused ZeroRegister) = refl
 outcome-of-number (Refused TickAboveLimit) = refl
+outcome-of-number (Refused MalformedRecord) = refl
+outcome-of-number (Refused MisplacedByte) = refl
 
 -- No two outcomes have one number.
 pub same-outcome : (o o′ : Outcome) → numberOf o ≡ numberOf o′ → o ≡ o′
@@ -56,6 +61,8 @@ small-number (Refused IllFormed) = omega arith
 small-number (Refused ShortOutput) = omega arith
 small-number (Refused ZeroRegister) = omega arith
 small-number (Refused TickAboveLimit) = omega arith
+small-number (Refused MalformedRecord) = omega arith
+small-number (Refused MisplacedByte) = omega arith
 
 -- No refusal is done.
 pub done-or-refused {ℓ} : {P : Type ℓ} {o : Outcome} {c : Cause} → o ≡ Done → o ≡ Refused c → P

@@ -25,6 +25,10 @@ pub enum Cause {
     ZeroRegister,
     // The tick of a view is above the limit.
     TickAboveLimit,
+    // A record of HEX has a wrong form, type or sum; or the end is missing, or something follows it.
+    MalformedRecord,
+    // A record of HEX gives a byte outside memory, or one that was given before.
+    MisplacedByte,
 }
 
 // How a call of load, step, run, print or view ended: it was carried out, or refused.
@@ -49,6 +53,8 @@ impl Cause {
             Cause::ShortOutput => 8,
             Cause::ZeroRegister => 9,
             Cause::TickAboveLimit => 10,
+            Cause::MalformedRecord => 11,
+            Cause::MisplacedByte => 12,
         }
     }
 }

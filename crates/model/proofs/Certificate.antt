@@ -14,15 +14,15 @@ use lib.Dec.{leb, ltb, eqb}
 use borrow.Author.Tests.{leb-true, leb-false, ltb-true, ltb-false, eqb-true, eqb-false}
 use Rattle.model.specs.Record.{State}
 use Rattle.model.specs.Step.{step, steps}
-use Rattle.model.specs.Load.{load}
 use Rattle.model.specs.Program.{stateOfLoad}
 use Rattle.model.specs.Seen.{LowEquivalent}
-use Rattle.model.specs.Noninterference.{Invocation, trace, StepsProvisos, Provisos, SameSetting}
-use Rattle.model.specs.Certificate.{attempts, Certified, Certificate, whole, breaks, breakAt, certify, CertifiedNoninterference, CertifyTells, OneCertificate}
+use Rattle.model.specs.Noninterference.{Invocation, trace, StepsProvisos, Provisos, SameSetting, loadImage}
+use Rattle.model.specs.Certificate.{Certified, Certificate, whole, breaks, breakAt, certify, CertifiedNoninterference, CertifyTells, OneCertificate}
 use Rattle.model.proofs.Truth.{either, clash}
 use Rattle.model.proofs.Ready.{Ready}
 use Rattle.model.proofs.Step.{step-ready, step-passes}
-use Rattle.model.proofs.Load.{Loaded, loaded-ready, load-loaded}
+use Rattle.model.proofs.Load.{Loaded, loaded-ready}
+use Rattle.model.proofs.HexLoad.{image-loaded}
 use Rattle.model.proofs.Noninterference.{loaded-outside, from-loaded-states}
 use Rattle.model.proofs.Noninterference.Visible.{setting-sym}
 use Rattle.model.proofs.Noninterference.Paths.{Both}
@@ -74,9 +74,9 @@ loaded-clock : (k : ℕ) (s : State) → Loaded s → s .control .clock ≤ k
 loaded-clock k s l = rw (l .clock) (omega arith)
 
 pub certify-tells : CertifyTells
-certify-tells ℓ text memory a k =
-    let s = stateOfLoad (load text memory) in
-    let l = load-loaded text memory a in
+certify-tells ℓ image memory a k =
+    let s = stateOfLoad (loadImage image memory) in
+    let l = image-loaded image memory a in
     let r = loaded-ready s l in
     (no-cause ℓ s r k, λ n. (before ℓ s r k n (loaded-clock k s l), from ℓ s r k n))
 
@@ -125,9 +125,9 @@ one-from-states ℓ s t l m same low =
         first-broken ℓ s t same (low .control) (loaded-outside s l) (loaded-outside t m) (l .clock ∙ sym (m .clock))
 
 pub one-certificate : OneCertificate
-one-certificate ℓ text text′ memory memory′ a b =
-    one-from-states ℓ (stateOfLoad (load text memory)) (stateOfLoad (load text′ memory′)) (load-loaded text memory a)
-    (load-loaded text′ memory′ b)
+one-certificate ℓ image image′ memory memory′ a b =
+    one-from-states ℓ (stateOfLoad (loadImage image memory)) (stateOfLoad (loadImage image′ memory′)) (image-loaded image memory a)
+    (image-loaded image′ memory′ b)
 
 -- ---- certified machines meet the provisos
 
@@ -183,11 +183,11 @@ certified-there ℓ k s t l m same low h =
     (either (eqb (certify ℓ t .cause) 0))
 
 pub certified-noninterference : CertifiedNoninterference
-certified-noninterference ℓ k text text′ memory memory′ a b same low h =
-    let s = stateOfLoad (load text memory) in
-    let t = stateOfLoad (load text′ memory′) in
-    let l = load-loaded text memory a in
-    let m = load-loaded text′ memory′ b in
+certified-noninterference ℓ k image image′ memory memory′ a b same low h =
+    let s = stateOfLoad (loadImage image memory) in
+    let t = stateOfLoad (loadImage image′ memory′) in
+    let l = image-loaded image memory a in
+    let m = image-loaded image′ memory′ b in
     let g = certified-there ℓ k s t l m same low h in (
       g,
       λ qs rs.

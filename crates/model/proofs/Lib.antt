@@ -8,8 +8,10 @@ pub mod Step
 pub mod Run
 pub mod RunTo
 pub mod Load
+pub mod HexLoad
 pub mod Program
 pub mod Facts
+pub mod HexFacts
 pub mod Noninterference
 pub mod Multiply
 pub mod View

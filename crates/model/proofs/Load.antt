@@ -32,8 +32,8 @@ use Rattle.model.specs.Numbers.{valueCount}
 use Rattle.model.specs.Inner.Typed.{Typed, Below, BankTyped, RegistersTyped}
 use Rattle.model.specs.Ops.{writable, isLabel}
 use Rattle.model.specs.Step.{running, setValue}
-use Rattle.model.specs.Text.{lines}
-use Rattle.model.specs.Load.{machineOfHeader, withGate, withRegister, withEntry, withLine, headerInRange, gateInRange, entryInRange, headerTests, lineTests, behindHeader, lastOf, Verdict, refuse, accept, tried, judge, judgeHeader, judgeLines, judgeText, cleared, withWord, fill, settle, load}
+use Rattle.model.specs.Text.{readLine}
+use Rattle.model.specs.Load.{machineOfHeader, withGate, withRegister, withEntry, withLine, headerInRange, gateInRange, entryInRange, headerTests, lineTests, behindHeader, lastOf, Verdict, refuse, accept, tried, _andThen_, judgeM, judgeFirst, judgeHeader, judge, linesBehind, judgeText, cleared, withWord, fill, settle, load}
 use Rattle.model.specs.Program.{stateOfLoad}
 use Rattle.model.proofs.Truth.{choice, and-iff, clash}
 use Rattle.model.proofs.Ready.{FixedFit, none, fit, fits, whole-lengths, whole-lent, Ready}
@@ -53,10 +53,10 @@ record Started (c : Control) : Type 0 where
   why : c .why ≡ 0
 
 -- Memory of at least the size, with words of 32 bits and labels below it.
-record Lent (size : ℕ) (m : Bank) : Type 0 where
-  numbers : BankTyped size m
-  words : size ≤ length (m .values)
-  labels : size ≤ length (m .labels)
+pub record Lent (size : ℕ) (m : Bank) : Type 0 where
+  pub numbers : BankTyped size m
+  pub words : size ≤ length (m .values)
+  pub labels : size ≤ length (m .labels)
 
 -- The record and the memory so far are in order.
 record InOrder (r : Machine) (m : Bank) : Type 0 where
@@ -144,11 +144,12 @@ word-in-order r m k l v h e =
 -- ---- the lines
 
 -- No refusal is an acceptance.
-refuse-accept {κ} : {P : Type κ} {c : Cause} {n : ℕ} {r : Machine} → refuse c n ≡ accept r → P
+pub refuse-accept {κ} : {P : Type κ} {A : Type 0} {c : Cause} {n : ℕ} {a : A}
+    → _≡_ {A = Verdict A} (refuse c n) (accept a) → P
 refuse-accept e = let z : _≡_ {A = ℕ} 0 1 = cc in absurd (omega arith)
 
 -- An accepted line passes its tests, and the lines behind it are accepted.
-pub tried-accept : (o : Outcome) (n : ℕ) (more : Verdict) (r : Machine) → tried o n more ≡ accept r
+pub tried-accept : {A : Type 0} (o : Outcome) (n : ℕ) (more : Verdict A) (r : A) → tried o n more ≡ accept r
     → (o ≡ Done) × (more ≡ accept r)
 tried-accept Done n more r e = (refl, e)
 tried-accept (Refused c) n more r e = refuse-accept e
@@ -274,53 +275,80 @@ in-order-loaded r m h =
       typed = record { registers = h .registers; memory = h .memory .numbers };
     }
 
--- An accepted text: an M line that passes its tests, and lines behind it that are accepted.
-pub record Accepts (ls : List Line) (m : Bank) (r : Machine) : Type 0 where
-  pub header : Header
-  pub rest : List Line
-  pub is : ls ≡ M (header .size) (header .errorpc) (header .pc) (header .p) (header .t) (header .limit) ∷ rest
-  pub tests : AllPass (headerTests header m)
-  pub judged : judge (machineOfHeader header) behindHeader 2 rest ≡ accept r
-
--- A verdict of acceptance says so.
-lines-accept : (ls : List Line) (m : Bank) (r : Machine) → judgeLines ls m ≡ accept r → Accepts ls m r
-unfolding judgeHeader
-lines-accept [] m r e = refuse-accept e
-lines-accept (M size errorpc pc p t limit ∷ ls) m r e =
-    let h : Header = record { size = size; errorpc = errorpc; pc = pc; p = p; t = t; limit = limit } in
-    let a = tried-accept (firstRefusal (headerTests h m)) 1 _ r e in
-    record { header = h; rest = ls; is = refl; tests = all-pass _ (a .0); judged = a .1 }
-lines-accept (G a b c ∷ ls) m r e = refuse-accept e
-lines-accept (R a b c ∷ ls) m r e = refuse-accept e
-lines-accept (W a b c ∷ ls) m r e = refuse-accept e
-lines-accept (Malformed ∷ ls) m r e = refuse-accept e
-
 -- What is accepted behind a test is accepted.
-unless-accept : (test : Bool) (c : Cause) (n : ℕ) (v : Verdict) (r : Machine) → unless test (refuse c n) v ≡ accept r
-    → v ≡ accept r
-unless-accept true c n v r e = e
-unless-accept false c n v r e = refuse-accept e
+pub unless-accept : {A : Type 0} (test : Bool) (c : Cause) (n : ℕ) (v : Verdict A) (a : A)
+    → unless test (refuse c n) v ≡ accept a → (test ≡ true) × (v ≡ accept a)
+unless-accept true c n v a e = (refl, e)
+unless-accept false c n v a e = refuse-accept e
 
-pub text-accepts : (text : List ℕ) (m : Bank) (r : Machine) → judgeText text m ≡ accept r → Accepts (lines text) m r
+-- What is accepted behind another verdict is accepted, and so is what comes before it.
+pub record Both {A B : Type 0} (v : Verdict A) (more : A → Verdict B) (b : B) : Type 0 where
+  pub first : A
+  pub accepted : v ≡ accept first
+  pub behind : more first ≡ accept b
+
+pub then-accept : {A B : Type 0} (v : Verdict A) (more : A → Verdict B) (b : B) → (v andThen more) ≡ accept b → Both v more b
+then-accept (refuse c n) more b e = refuse-accept e
+then-accept (accept a) more b e = record { first = a; accepted = refl; behind = e }
+
+-- An accepted header: the record of an M line that passes its tests.
+pub record Heads (m : Bank) (r : Machine) : Type 0 where
+  pub header : Header
+  pub is : r ≡ machineOfHeader header
+  pub tests : AllPass (headerTests header m)
+
+first-accepts : (first : Line) (m : Bank) (r : Machine) → judgeFirst first m ≡ accept r → Heads m r
+unfolding judgeM
+first-accepts (M size errorpc pc p t limit) m r e =
+    let h : Header = record { size = size; errorpc = errorpc; pc = pc; p = p; t = t; limit = limit } in
+    let a = tried-accept (firstRefusal (headerTests h m)) 1 (accept (machineOfHeader h)) r e in
+    record { header = h; is = cc (a .1); tests = all-pass _ (a .0) }
+first-accepts (G a b c) m r e = refuse-accept e
+first-accepts (R a b c) m r e = refuse-accept e
+first-accepts (W a b c) m r e = refuse-accept e
+first-accepts Malformed m r e = refuse-accept e
+
+pub header-accepts : (bytes : ℕ) (first : Line) (m : Bank) (r : Machine) → judgeHeader bytes first m ≡ accept r → Heads m r
+unfolding judgeHeader
+header-accepts bytes first m r e =
+    first-accepts first m r (unless-accept (leb 1 bytes && leb bytes 65535) TextLength 0 (judgeFirst first m) r e .1)
+
+-- It has the memory that it wants, and leaves record and memory in order.
+pub heads-whole : {m : Bank} {r : Machine} → Heads m r → lentWhole (r .fixed .size) m ≡ true
+unfolding headerTests
+heads-whole a = rw (a .is) (a .tests .1 .1 .0)
+
+heads-in-order : {m : Bank} {r : Machine} → Heads m r → InOrder r (cleared (r .fixed .size) m)
+unfolding headerTests
+heads-in-order {m} a = rw (a .is) (header-in-order (a .header) m (a .tests .0) (a .tests .1 .0))
+
+-- With any memory in order it is a loaded state.
+pub heads-loaded : {m : Bank} {r : Machine} → Heads m r → (b : Bank) → Lent (r .fixed .size) b → Loaded (stateOf r b)
+heads-loaded {r = r} a b l =
+    let h = heads-in-order a in
+    in-order-loaded r b
+    (record { fixed = h .fixed; started = h .started; registers = h .registers; zero = h .zero; memory = l })
+
+-- An accepted text: a header that is accepted, and so are the lines behind it.
+pub text-accepts : (text : List ℕ) (m : Bank) (r : Machine) → judgeText text m ≡ accept r
+    → Both (judgeHeader (length text) (readLine text .line) m) (λ q. judge q behindHeader 2 (linesBehind text)) r
 unfolding judgeText
-text-accepts text m r e =
-    lines-accept (lines text) m r (unless-accept (leb 1 (length text) && leb (length text) 65535) TextLength 0 _ r e)
+text-accepts text m r e = then-accept _ _ r e
 
--- An accepted text leaves a loaded state.
-accepts-loaded : (ls : List Line) (m : Bank) (r : Machine) → Accepts ls m r
-    → Loaded (stateOf r (fill ls (cleared (r .fixed .size) m)))
-unfolding fill headerTests
-accepts-loaded ls m r a =
-    let h = a .header in
-    let size = judge-size (machineOfHeader h) _ 2 (a .rest) r (a .judged) in
-    rw (a .is)
-    (in-order-loaded r (fill (a .rest) (cleared (r .fixed .size) m))
-    (subst (λ (n : ℕ). InOrder r (fill (a .rest) (cleared n m))) (sym size)
-    (judged (machineOfHeader h) _ 2 (a .rest) (cleared (h .size) m) r (a .judged)
-    (header-in-order h m (a .tests .0) (a .tests .1 .0)))))
+-- It leaves a loaded state.
+accepts-loaded : (text : List ℕ) (m : Bank) (r : Machine) → judgeText text m ≡ accept r
+    → Loaded (stateOf r (fill (linesBehind text) (cleared (r .fixed .size) m)))
+accepts-loaded text m r e =
+    let a = text-accepts text m r e in
+    let q = a .first in
+    let size = judge-size q behindHeader 2 (linesBehind text) r (a .behind) in
+    in-order-loaded r (fill (linesBehind text) (cleared (r .fixed .size) m))
+    (subst (λ (n : ℕ). InOrder r (fill (linesBehind text) (cleared n m))) (sym size)
+    (judged q behindHeader 2 (linesBehind text) (cleared (q .fixed .size) m) r (a .behind)
+    (heads-in-order (header-accepts _ _ m q (a .accepted)))))
 
 -- So the answer by a verdict has one where it is done.
-settled : (v : Verdict) (ls : List Line) (m : Bank)
+settled : (v : Verdict Machine) (ls : List Line) (m : Bank)
     → ((r : Machine) → v ≡ accept r → Loaded (stateOf r (fill ls (cleared (r .fixed .size) m))))
     → settle v ls m .outcome ≡ Done → Loaded (stateOfLoad (settle v ls m))
 settled (refuse c n) ls m f e = done-or-refused e refl
@@ -329,8 +357,7 @@ settled (accept r) ls m f e = f r refl
 -- An accepted load leaves a loaded state.
 pub load-loaded : (text : List ℕ) (m : Bank) → load text m .outcome ≡ Done → Loaded (stateOfLoad (load text m))
 unfolding load
-load-loaded text m =
-    settled (judgeText text m) (lines text) m (λ r e. accepts-loaded (lines text) m r (text-accepts text m r e))
+load-loaded text m = settled (judgeText text m) (linesBehind text) m (accepts-loaded text m)
 
 -- ---- memory that is never too short
 
@@ -343,13 +370,23 @@ abbrev Early : Outcome → Type 0
 Early o = (c : Cause) → o ≡ Refused c → Other c
 
 -- The verdict doesn't refuse for short memory.
-abbrev NotShort : Verdict → Type 0
+abbrev pub NotShort : {A : Type 0} → Verdict A → Type 0
 NotShort v = (n : ℕ) → v ≡ refuse ShortMemory n → ⊥
 
 -- Where a line's outcome is such, its verdict is where that of the lines behind it is.
-tried-not-short : (o : Outcome) (n : ℕ) (more : Verdict) → Early o → NotShort more → NotShort (tried o n more)
+tried-not-short : {A : Type 0} (o : Outcome) (n : ℕ) (more : Verdict A) → Early o → NotShort more → NotShort (tried o n more)
 tried-not-short Done n more f h = h
 tried-not-short (Refused c) n more f h = λ k e. let q : c ≡ ShortMemory = cc in clash refl (subst Other q (f c refl))
+
+-- An acceptance doesn't.
+pub accept-not-short : {A : Type 0} (a : A) → NotShort (accept a)
+accept-not-short a k e = refuse-accept (sym e)
+
+-- Nor does what follows, where neither part does.
+pub then-not-short : {A B : Type 0} (v : Verdict A) (more : A → Verdict B) → NotShort v → ((a : A) → NotShort (more a))
+    → NotShort (v andThen more)
+then-not-short (refuse c n) more f g = λ k e. let q : c ≡ ShortMemory = cc in f n (rw q refl)
+then-not-short (accept a) more f g = g a
 
 -- The causes of a line behind the first.
 line-causes : (size count : ℕ) (last : Last) (l : Line)
@@ -363,7 +400,7 @@ line-causes size count last Malformed = (refl, tt)
 
 judge-not-short : (r : Machine) (last : Last) (n : ℕ) (ls : List Line) → NotShort (judge r last n ls)
 unfolding judge
-judge-not-short r last n [] = λ k e. refuse-accept (sym e)
+judge-not-short r last n [] = accept-not-short r
 judge-not-short r last n (l ∷ ls) =
     let tests = lineTests (r .fixed .size) (r .fixed .count) last l in
     tried-not-short (firstRefusal tests) n _
@@ -376,10 +413,10 @@ unfolding headerInRange
 header-size h e = let q = simp and-iff at e in leb-true (h .size) 2048 (q .0 .0 .0 .0 .0 .1)
 
 -- A refusal by another cause.
-other : {c : Cause} {n k : ℕ} → Other c → refuse c n ≡ refuse ShortMemory k → ⊥
-other {c} h e = let q : c ≡ ShortMemory = cc in clash refl (subst Other q h)
+pub other : {A : Type 0} (c : Cause) {n : ℕ} → Other c → NotShort {A = A} (refuse c n)
+other c h k e = let q : c ≡ ShortMemory = cc in clash refl (subst Other q h)
 
-settle-not-short : (v : Verdict) (ls : List Line) (m : Bank) → NotShort v → settle v ls m .outcome ≡ Refused ShortMemory → ⊥
+settle-not-short : (v : Verdict Machine) (ls : List Line) (m : Bank) → NotShort v → settle v ls m .outcome ≡ Refused ShortMemory → ⊥
 settle-not-short (refuse c n) ls m h e = let q : c ≡ ShortMemory = cc in h n (rw q refl)
 settle-not-short (accept r) ls m h e = done-or-refused refl e
 
@@ -404,23 +441,28 @@ module _ (m : Bank) (words : 2048 ≤ length (m .values)) (labels : 2048 ≤ len
       early : (c : Cause) → Other c → Early (Refused c)
       early c k d q = let p : c ≡ d = cc in rw (← p) k
 
-  lines-not-short : (ls : List Line) → NotShort (judgeLines ls m)
-  unfolding judgeHeader
-  lines-not-short [] = λ k e. other {c = MalformedLine} refl e
-  lines-not-short (M size errorpc pc p t limit ∷ ls) =
+  first-not-short : (first : Line) → NotShort (judgeFirst first m)
+  unfolding judgeM
+  first-not-short (M size errorpc pc p t limit) =
       let h : Header = record { size = size; errorpc = errorpc; pc = pc; p = p; t = t; limit = limit } in
-      tried-not-short (firstRefusal (headerTests h m)) 1 _ (header-early h) (judge-not-short _ _ 2 ls)
-  lines-not-short (G a b c ∷ ls) = λ k e. other {c = MalformedLine} refl e
-  lines-not-short (R a b c ∷ ls) = λ k e. other {c = MalformedLine} refl e
-  lines-not-short (W a b c ∷ ls) = λ k e. other {c = MalformedLine} refl e
-  lines-not-short (Malformed ∷ ls) = λ k e. other {c = MalformedLine} refl e
+      tried-not-short (firstRefusal (headerTests h m)) 1 _ (header-early h) (accept-not-short _)
+  first-not-short (G a b c) = other MalformedLine refl
+  first-not-short (R a b c) = other MalformedLine refl
+  first-not-short (W a b c) = other MalformedLine refl
+  first-not-short Malformed = other MalformedLine refl
+
+  pub header-not-short : (bytes : ℕ) (first : Line) → NotShort (judgeHeader bytes first m)
+  unfolding judgeHeader
+  header-not-short bytes first =
+      choice NotShort (leb 1 bytes && leb bytes 65535) _ _ (λ h. first-not-short first) (λ h. other TextLength refl)
 
   -- Into 2,048 words and labels no load is refused for short memory.
   pub load-not-short : (text : List ℕ) → load text m .outcome ≡ Refused ShortMemory → ⊥
   unfolding load judgeText
   load-not-short text =
-      settle-not-short _ (lines text) m
-      (choice NotShort (leb 1 (length text) && leb (length text) 65535) _ _ (λ h. lines-not-short (lines text)) (λ h k e. other {c = TextLength} refl e))
+      settle-not-short _ (linesBehind text) m
+      (then-not-short (judgeHeader (length text) (readLine text .line) m) _ (header-not-short _ _)
+      (λ r. judge-not-short r behindHeader 2 (linesBehind text)))
 
 -- A loaded state is ready.
 pub loaded-ready : (s : State) → Loaded s → Ready s

@@ -14,11 +14,11 @@ use native.Mathlib.Omega.{arith}
 use mathlib.Core.List.{List}
 use mathlib.Core.Bool.{true}
 use Rattle.model.specs.Record.{State, newest, inUpcall}
-use Rattle.model.specs.Load.{load}
 use Rattle.model.specs.Program.{stateOfLoad}
-use Rattle.model.specs.Noninterference.{Invocation, trace, atTick, reached, Provisos, SameSetting, Noninterference}
+use Rattle.model.specs.Noninterference.{Invocation, trace, atTick, reached, Provisos, SameSetting, loadImage, Noninterference}
 use Rattle.model.specs.Seen.{LowEquivalent}
-use Rattle.model.proofs.Load.{Loaded, loaded-ready, load-loaded}
+use Rattle.model.proofs.Load.{Loaded, loaded-ready}
+use Rattle.model.proofs.HexLoad.{image-loaded}
 use Rattle.model.proofs.Noninterference.Paths.{at-one-tick}
 use Rattle.model.proofs.Noninterference.Trace.{Arrived, arrive, trace-row}
 
@@ -55,6 +55,6 @@ from-loaded-states ℓ k s t l m same low qs rs p q h g =
 
 -- From two accepted loads: the third demand.
 pub noninterference : Noninterference
-noninterference ℓ k text text′ memory memory′ a b =
-    from-loaded-states ℓ k (stateOfLoad (load text memory)) (stateOfLoad (load text′ memory′)) (load-loaded text memory a)
-    (load-loaded text′ memory′ b)
+noninterference ℓ k image image′ memory memory′ a b =
+    from-loaded-states ℓ k (stateOfLoad (loadImage image memory)) (stateOfLoad (loadImage image′ memory′))
+    (image-loaded image memory a) (image-loaded image′ memory′ b)

@@ -16,18 +16,19 @@ use Rattle.model.specs.declared.Request.the-variants.{Run}
 use Rattle.model.specs.Numbers.{letterR, letterW, registerCount, mostWords}
 use Rattle.model.specs.Record.{Machine, State, register, word, machineOf}
 use Rattle.model.specs.Step.{running, step, run, finishesBy, stepsBy, runTo}
-use Rattle.model.specs.Load.{Loading, load}
+use Rattle.model.specs.Load.{Loading}
 use Rattle.model.specs.Listing.{headFor, entryFor, entryLines, listingFor, notPrinted, printed, listed}
 use Rattle.model.specs.Program.{stateOfLoad}
 use Rattle.model.specs.Seen.{Seen, seenAt, LowEquivalent}
-use Rattle.model.specs.Noninterference.{after, afterAll, regain, runStates, workStates, callStates, trace, atTick, reached}
-use Rattle.model.specs.View.{refused, arrived, look, viewOf, view, SameView, runCall, SteadyView}
+use Rattle.model.specs.Noninterference.{after, afterAll, regain, runStates, workStates, callStates, trace, atTick, reached, loadImage}
+use Rattle.model.specs.View.{refused, arrived, look, viewOf, viewLoad, SameView, runCall, SteadyView}
 use Rattle.model.proofs.Truth.{either}
 use Rattle.model.proofs.Ready.{Ready}
 use Rattle.model.proofs.Step.{step-clock, step-ready}
 use Rattle.model.proofs.Run.{run-ends}
 use Rattle.model.proofs.RunTo.{late-stays, ended-stays, timely-goes}
-use Rattle.model.proofs.Load.{loaded-ready, load-loaded}
+use Rattle.model.proofs.Load.{loaded-ready}
+use Rattle.model.proofs.HexLoad.{image-loaded}
 use Rattle.model.proofs.Noninterference.Trace.{run-row, past, answer-whole, trace-last}
 use Rattle.model.proofs.Noninterference.{from-loaded-states}
 
@@ -128,14 +129,14 @@ look-above k a y e = rw (y, e)
 
 -- From two accepted loads: both ticks are above the limit, or the two are alike at the tick.
 pub steady-view : SteadyView
-unfolding view
-steady-view ℓ k text text′ memory memory′ a b same low p q out =
-    let x = load text memory in
-    let y = load text′ memory′ in
+unfolding viewLoad
+steady-view ℓ k image image′ memory memory′ a b same low p q out =
+    let x = loadImage image memory in
+    let y = loadImage image′ memory′ in
     let s = stateOfLoad x in
     let t = stateOfLoad y in
-    let l = load-loaded text memory a in
-    let m = load-loaded text′ memory′ b in
+    let l = image-loaded image memory a in
+    let m = image-loaded image′ memory′ b in
     let r = loaded-ready s l in
     let u = loaded-ready t m in
     ⊎-elim

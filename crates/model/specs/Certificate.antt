@@ -20,7 +20,7 @@ use Rattle.model.specs.Load.{Loading, load}
 use Rattle.model.specs.Listing.{line}
 use Rattle.model.specs.Program.{stateOfLoad, memoryAfter, programMemory, Replied}
 use Rattle.model.specs.Seen.{within, LowEquivalent}
-use Rattle.model.specs.Noninterference.{Invocation, trace, atTick, reached, timedFromOutside, Provisos, SameSetting, Accepted}
+use Rattle.model.specs.Noninterference.{Invocation, trace, atTick, reached, timedFromOutside, Provisos, SameSetting, Image, loadImage, Accepted}
 
 -- ---- what breaks a certificate
 
@@ -155,9 +155,10 @@ certifyAlone ℓ text out =
 -- alike at or below ℓ at k.
 abbrev pub CertifiedNoninterference : Type 0
 CertifiedNoninterference =
-    (ℓ k : ℕ) (text text′ : List ℕ) (memory memory′ : Bank) → Accepted (load text memory) → Accepted (load text′ memory′)
-    → (let s = stateOfLoad (load text memory) in
-    let t = stateOfLoad (load text′ memory′) in
+    (ℓ k : ℕ) (image image′ : Image) (memory memory′ : Bank) → Accepted (loadImage image memory)
+    → Accepted (loadImage image′ memory′)
+    → (let s = stateOfLoad (loadImage image memory) in
+    let t = stateOfLoad (loadImage image′ memory′) in
     SameSetting s t → LowEquivalent ℓ s t → Certified ℓ k s
     → Certified ℓ k t
     × ((qs rs : List Invocation)
@@ -170,8 +171,8 @@ CertifiedNoninterference =
 -- the tick, and at none from it on.
 abbrev pub CertifyTells : Type 0
 CertifyTells =
-    (ℓ : ℕ) (text : List ℕ) (memory : Bank) → Accepted (load text memory)
-    → (let s = stateOfLoad (load text memory) in
+    (ℓ : ℕ) (image : Image) (memory : Bank) → Accepted (loadImage image memory)
+    → (let s = stateOfLoad (loadImage image memory) in
     (k : ℕ)
     → (certify ℓ s .cause ≡ 0 → Certified ℓ k s)
     × ((certify ℓ s .cause ≡ 0 → ⊥)
@@ -180,6 +181,7 @@ CertifyTells =
 -- Two accepted images of equal setting that are alike at or below ℓ get one certificate.
 abbrev pub OneCertificate : Type 0
 OneCertificate =
-    (ℓ : ℕ) (text text′ : List ℕ) (memory memory′ : Bank) → Accepted (load text memory) → Accepted (load text′ memory′)
-    → (let s = stateOfLoad (load text memory) in
-    let t = stateOfLoad (load text′ memory′) in SameSetting s t → LowEquivalent ℓ s t → certify ℓ s ≡ certify ℓ t)
+    (ℓ : ℕ) (image image′ : Image) (memory memory′ : Bank) → Accepted (loadImage image memory)
+    → Accepted (loadImage image′ memory′)
+    → (let s = stateOfLoad (loadImage image memory) in
+    let t = stateOfLoad (loadImage image′ memory′) in SameSetting s t → LowEquivalent ℓ s t → certify ℓ s ≡ certify ℓ t)

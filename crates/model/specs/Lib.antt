@@ -10,12 +10,15 @@ pub mod Step
 pub mod Answer
 pub mod Text
 pub mod Load
+pub mod Hex
+pub mod HexLoad
 pub mod Seen
 pub mod Listing
 pub mod Program
 -- ======== Here the definition of the machine ends. Everything else, here and in proofs/, is derived from it. View puts load,
 -- the run to a tick and the listing for a label together, and states what its viewer is promised.
 pub mod Facts
+pub mod HexFacts
 pub mod Noninterference
 pub mod View
 pub mod Certificate

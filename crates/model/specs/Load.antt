@@ -23,7 +23,7 @@ use Rattle.model.specs.declared.judging.Header.{Header}
 use Rattle.model.specs.Record.{Bank, Machine}
 use Rattle.model.specs.WellFormed.{isValid, sizeInRange, limitInRange, lentWhole}
 use Rattle.model.specs.Ops.{writable, isLabel, noGate}
-use Rattle.model.specs.Text.{lines}
+use Rattle.model.specs.Text.{readLine, lines}
 
 -- ---- the record that a text describes
 
@@ -146,40 +146,53 @@ lastOf (R k l v) = record { kind = RegisterLine; number = k }
 lastOf (W k l v) = record { kind = WordLine; number = k }
 lastOf Malformed = behindHeader
 
--- What judging the lines gives: a refusal with its cause and line, or the record.
-pub data Verdict : Type 0 where
-  refuse : Cause → ℕ → Verdict
-  accept : Machine → Verdict
+-- What judging gives: a refusal with its cause and line, or what is accepted.
+pub data Verdict (A : Type 0) : Type 0 where
+  refuse : Cause → ℕ → Verdict A
+  accept : A → Verdict A
 
 -- The verdict on line n and those behind it, by the outcome of its tests.
-abbrev pub tried : Outcome → ℕ → Verdict → Verdict
+abbrev pub tried : {A : Type 0} → Outcome → ℕ → Verdict A → Verdict A
 tried Done n more = more
 tried (Refused cause) n more = refuse cause n
 
+infixl 20 _andThen_
+-- The verdict on what follows, where what comes before it is accepted.
+abbrev pub _andThen_ : {A B : Type 0} → Verdict A → (A → Verdict B) → Verdict B
+refuse cause n andThen more = refuse cause n
+accept a andThen more = more a
+
+-- The verdict on an M line.
+unfoldable pub judgeM : Header → Bank → Verdict Machine
+judgeM h m = tried (firstRefusal (headerTests h m)) 1 (accept (machineOfHeader h))
+
+-- The verdict on a first line. It must be M, else it is 2.
+abbrev pub judgeFirst : Line → Bank → Verdict Machine
+judgeFirst (M size errorpc pc p t limit) m =
+    judgeM (record { size = size; errorpc = errorpc; pc = pc; p = p; t = t; limit = limit }) m
+judgeFirst (G a b c) m = refuse MalformedLine 1
+judgeFirst (R a b c) m = refuse MalformedLine 1
+judgeFirst (W a b c) m = refuse MalformedLine 1
+judgeFirst Malformed m = refuse MalformedLine 1
+
+-- The verdict on a text by its length and its first line: one that is empty or above 65,535 bytes is 1, with line 0.
+unfoldable pub judgeHeader : ℕ → Line → Bank → Verdict Machine
+judgeHeader bytes first m = unless (leb 1 bytes && leb bytes longestText) (refuse TextLength 0) (judgeFirst first m)
+
 -- The verdict on the lines behind the first, the next of which is line n.
-unfoldable pub judge : Machine → Last → ℕ → List Line → Verdict
+unfoldable pub judge : Machine → Last → ℕ → List Line → Verdict Machine
 judge r last n [] = accept r
 judge r last n (l ∷ ls) =
     tried (firstRefusal (lineTests (r .fixed .size) (r .fixed .count) last l)) n (judge (withLine r l) (lastOf l) (n + 1) ls)
 
--- The verdict on an M line and the lines behind it.
-unfoldable pub judgeHeader : Header → List Line → Bank → Verdict
-judgeHeader h ls m = tried (firstRefusal (headerTests h m)) 1 (judge (machineOfHeader h) behindHeader 2 ls)
+-- The lines behind the first.
+abbrev pub linesBehind : List ℕ → List Line
+linesBehind text = lines (drop (readLine text .next) text)
 
--- The verdict on all lines. The first must be M, else it is 2.
-abbrev pub judgeLines : List Line → Bank → Verdict
-judgeLines [] m = refuse MalformedLine 1
-judgeLines (M size errorpc pc p t limit ∷ ls) m =
-    judgeHeader (record { size = size; errorpc = errorpc; pc = pc; p = p; t = t; limit = limit }) ls m
-judgeLines (G a b c ∷ ls) m = refuse MalformedLine 1
-judgeLines (R a b c ∷ ls) m = refuse MalformedLine 1
-judgeLines (W a b c ∷ ls) m = refuse MalformedLine 1
-judgeLines (Malformed ∷ ls) m = refuse MalformedLine 1
-
--- The verdict on a text: one that is empty or above 65,535 bytes is 1, with line 0.
-unfoldable pub judgeText : List ℕ → Bank → Verdict
+-- The verdict on a text.
+unfoldable pub judgeText : List ℕ → Bank → Verdict Machine
 judgeText text m =
-    unless (leb 1 (length text) && leb (length text) longestText) (refuse TextLength 0) (judgeLines (lines text) m)
+    judgeHeader (length text) (readLine text .line) m andThen (λ r. judge r behindHeader 2 (linesBehind text))
 
 -- ---- memory
 
@@ -214,12 +227,16 @@ pub record Loading : Type 0 where
 abbrev pub noMachine : Machine
 noMachine = machineOfHeader (record { size = 0; errorpc = 0; pc = 0; p = 0; t = 0; limit = 0 })
 
--- The answer by the verdict. A refusal leaves words and labels.
-abbrev pub settle : Verdict → List Line → Bank → Loading
-settle (refuse cause line) ls m = record { outcome = Refused cause; line = line; machine = noMachine; memory = m }
+-- The answer of a refusal. It leaves words and labels.
+abbrev pub refusal : Cause → ℕ → Bank → Loading
+refusal cause line m = record { outcome = Refused cause; line = line; machine = noMachine; memory = m }
+
+-- The answer by the verdict.
+abbrev pub settle : Verdict Machine → List Line → Bank → Loading
+settle (refuse cause line) ls m = refusal cause line m
 settle (accept r) ls m =
     record { outcome = Done; line = 0; machine = r; memory = fill ls (cleared (r .fixed .size) m) }
 
 -- Load.
 unfoldable pub load : List ℕ → Bank → Loading
-load text m = settle (judgeText text m) (lines text) m
+load text m = settle (judgeText text m) (linesBehind text) m

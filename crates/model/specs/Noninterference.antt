@@ -8,6 +8,7 @@ use mathlib.Core.List.{List, [], _∷_, _++_}
 use lib.Dec.{leb, ltb}
 use lib.ListN.{take, drop, getD}
 use lib.Seq.{sets}
+use Rattle.labels.specs.Label.{labelCount}
 use Rattle.causes.specs.declared.Outcome.the-variants.{Done}
 use Rattle.causes.specs.Causes.{isDone}
 use Rattle.model.specs.declared.Request.{Request}
@@ -17,6 +18,7 @@ use Rattle.model.specs.Ops.{Change, write, goto, enter, openUpcall, open
 use Rattle.model.specs.Step.{Decision, rest, spend, stall, close, carry, running, decide, step, finishesBy}
 use Rattle.model.specs.Answer.{Answer, answerOf}
 use Rattle.model.specs.Load.{Loading, load}
+use Rattle.model.specs.HexLoad.{loadHex}
 use Rattle.model.specs.Program.{stateOfLoad}
 use Rattle.model.specs.Seen.{within, exists, LowEquivalent}
 
@@ -160,18 +162,29 @@ pub record SameSetting (s t : State) : Type 0 where
   pub count : s .fixed .count ≡ t .fixed .count
   pub gates : (k : ℕ) → k < s .fixed .count → getD (s .fixed .gates) k noGate ≡ getD (t .fixed .gates) k noGate
 
+-- An image: a text, or an M text with a HEX text and a label.
+pub data Image : Type 0 where
+  fromText : List ℕ → Image
+  fromHex : List ℕ → List ℕ → (label : ℕ) → label < labelCount → Image
+
+-- The image loaded.
+abbrev pub loadImage : Image → Bank → Loading
+loadImage (fromText text) m = load text m
+loadImage (fromHex text hex label is) m = loadHex text hex label m
+
 -- The load is accepted.
 abbrev pub Accepted : Loading → Type 0
 Accepted a = a .outcome ≡ Done
 
--- The third demand. Take any label ℓ, any tick k, and any two texts that load accepts, each in its own lent memory, whose
+-- The third demand. Take any label ℓ, any tick k, and any two images that load accepts, each in its own lent memory, whose
 -- states have equal setting and are alike at or below ℓ. Whatever sequences of calls the two then get, the same or not: if
 -- both meet the provisos up to k and both have reached k, the two are alike at or below ℓ at k.
 abbrev pub Noninterference : Type 0
 Noninterference =
-    (ℓ k : ℕ) (text text′ : List ℕ) (memory memory′ : Bank) → Accepted (load text memory) → Accepted (load text′ memory′)
-    → (let s = stateOfLoad (load text memory) in
-    let t = stateOfLoad (load text′ memory′) in
+    (ℓ k : ℕ) (image image′ : Image) (memory memory′ : Bank) → Accepted (loadImage image memory)
+    → Accepted (loadImage image′ memory′)
+    → (let s = stateOfLoad (loadImage image memory) in
+    let t = stateOfLoad (loadImage image′ memory′) in
     SameSetting s t → LowEquivalent ℓ s t → (qs rs : List Invocation)
     → Provisos ℓ k s (trace qs s) → Provisos ℓ k t (trace rs t) → reached k s (trace qs s) ≡ true
     → reached k t (trace rs t) ≡ true → LowEquivalent ℓ (atTick k s (trace qs s)) (atTick k t (trace rs t)))

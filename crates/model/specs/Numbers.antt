@@ -122,6 +122,32 @@ letterX = 88
 abbrev pub letterV : ℕ
 letterV = 86
 
+-- ---- letters of Intel HEX, by their bytes
+
+-- What a record begins with.
+abbrev pub colon : ℕ
+colon = 58
+
+-- What may stand before an LF.
+abbrev pub cr : ℕ
+cr = 13
+
+-- The digit of 10, in upper case.
+abbrev pub upperA : ℕ
+upperA = 65
+
+-- The digit of 15, in upper case.
+abbrev pub upperF : ℕ
+upperF = 70
+
+-- The digit of 10, in lower case.
+abbrev pub lowerA : ℕ
+lowerA = 97
+
+-- The digit of 15, in lower case.
+abbrev pub lowerF : ℕ
+lowerF = 102
+
 -- ---- the kinds of a call, as an F line tells them
 
 -- A gate call.
@@ -145,3 +171,25 @@ mostDigits = 10
 -- The most bytes of a text.
 abbrev pub longestText : ℕ
 longestText = 65535
+
+-- ---- the bytes of Intel HEX
+
+-- Bytes are below this number, which stands where there is none.
+abbrev pub noByte : ℕ
+noByte = 256
+
+-- Hexadecimal digits are below this number, which stands where there is none.
+abbrev pub noDigit : ℕ
+noDigit = 16
+
+-- How many bytes make a word.
+abbrev pub wordBytes : ℕ
+wordBytes = 4
+
+-- How many bytes of a record stand before those that it gives: length, address and type.
+abbrev pub recordHead : ℕ
+recordHead = 4
+
+-- How many bytes a record has besides those that it gives: these and the check byte.
+abbrev pub recordFrame : ℕ
+recordFrame = 5

@@ -1,4 +1,4 @@
--- What the program `firing` prints: document 01, "Text", the second paragraph.
+-- What the programs `firing` and `hexfiring` print: document 01, "Text", the second paragraph.
 -- Assumes nothing.
 use Prim.Native.Nat.{ℕ}
 use mathlib.Core.Bool.{cond}
@@ -10,6 +10,7 @@ use Rattle.model.specs.Numbers.{mostWords, letterX}
 use Rattle.model.specs.Record.{Bank, State, stateOf}
 use Rattle.model.specs.Step.{run}
 use Rattle.model.specs.Load.{Loading, load}
+use Rattle.model.specs.HexLoad.{loadHex}
 use Rattle.model.specs.Listing.{line, listing}
 
 -- The state that a load leaves: its record and memory.
@@ -31,33 +32,51 @@ pub record Firing : Type 0 where
   pub output : List ℕ
   pub memory : Bank
 
--- A text loaded, run to the end and printed into lent output. Output that is too short is left, with 0 bytes.
-unfoldable pub fire : List ℕ → Bank → List ℕ → Firing
-fire text m out =
-    let o = reply (load text m) in
+-- An image that was loaded, run to the end and printed into lent output. Output that is too short is left, with 0 bytes.
+unfoldable pub fireLoad : Loading → List ℕ → Firing
+fireLoad a out =
+    let o = reply a in
     cond (leb (length o) (length out))
-    (record { bytes = length o; output = o ++ drop (length o) out; memory = memoryAfter (load text m) })
-    (record { bytes = 0; output = out; memory = memoryAfter (load text m) })
+    (record { bytes = length o; output = o ++ drop (length o) out; memory = memoryAfter a })
+    (record { bytes = 0; output = out; memory = memoryAfter a })
 
--- ---- the programs, whose memory and output have room for every text
+-- A text loaded and fired so.
+unfoldable pub fire : List ℕ → Bank → List ℕ → Firing
+fire text m out = fireLoad (load text m) out
 
--- A text fired where the output is longer than any reply: the reply stands whole at its start.
+-- An M text with a HEX text and a label.
+unfoldable pub fireHex : List ℕ → List ℕ → ℕ → Bank → List ℕ → Firing
+fireHex text hex label m out = fireLoad (loadHex text hex label m) out
+
+-- ---- the programs, whose memory and output have room for every image
+
+-- An image fired where the output is longer than any reply: the reply stands whole at its start.
+unfoldable pub fireLoadWhole : Loading → List ℕ → Firing
+fireLoadWhole a out =
+    let o = reply a in record { bytes = length o; output = o ++ drop (length o) out; memory = memoryAfter a }
+
+-- A text fired so.
 unfoldable pub fireWhole : List ℕ → Bank → List ℕ → Firing
-fireWhole text m out =
-    let o = reply (load text m) in
-    record { bytes = length o; output = o ++ drop (length o) out; memory = memoryAfter (load text m) }
+fireWhole text m out = fireLoadWhole (load text m) out
 
--- The memory of the program `firing`: 2,048 words and as many labels, the most that a machine can have, all 0 before the
--- load.
+-- The memory of the programs `firing` and `hexfiring`: 2,048 words and as many labels, the most that a machine can have, all
+-- 0 before the load.
 unfoldable pub programMemory : Bank
 programMemory = record { values = replicate mostWords 0; labels = replicate mostWords 0 }
 
--- What the program prints: how many bytes, and the output that holds them at its start.
+-- What a program prints: how many bytes, and the output that holds them at its start.
 pub record Replied : Type 0 where
   pub bytes : ℕ
   pub output : List ℕ
 
--- A text fired in that memory.
+-- That of a firing.
+abbrev pub repliedOf : Firing → Replied
+repliedOf f = record { bytes = f .bytes; output = f .output }
+
+-- What `firing` prints: a text fired in that memory.
 unfoldable pub fireAlone : List ℕ → List ℕ → Replied
-fireAlone text out =
-    let f = fireWhole text programMemory out in record { bytes = f .bytes; output = f .output }
+fireAlone text out = repliedOf (fireWhole text programMemory out)
+
+-- What `hexfiring` prints.
+unfoldable pub fireHexAlone : List ℕ → List ℕ → ℕ → List ℕ → Replied
+fireHexAlone text hex label out = repliedOf (fireLoadWhole (loadHex text hex label programMemory) out)

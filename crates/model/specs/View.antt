@@ -19,7 +19,7 @@ use Rattle.model.specs.Load.{Loading, load}
 use Rattle.model.specs.Listing.{line, listingFor, listed}
 use Rattle.model.specs.Program.{stateOfLoad, programMemory, Replied}
 use Rattle.model.specs.Seen.{LowEquivalent}
-use Rattle.model.specs.Noninterference.{Invocation, whole, trace, Provisos, SameSetting, Accepted}
+use Rattle.model.specs.Noninterference.{Invocation, whole, trace, Provisos, SameSetting, Image, loadImage, Accepted}
 
 -- ---- an image by a tick
 
@@ -55,9 +55,13 @@ viewOf ℓ (arrived s) out =
     let p = listed (machineOf s) (listingFor ℓ s) out in
     record { outcome = p .outcome; value = 0; bytes = p .bytes; output = p .output; memory = s .memory }
 
--- The view of a text from ℓ at tick k.
+-- The view of a loaded image from ℓ at tick k.
+unfoldable pub viewLoad : ℕ → ℕ → Loading → List ℕ → View
+viewLoad ℓ k a out = viewOf ℓ (look k a) out
+
+-- The view of a text.
 unfoldable pub view : ℕ → ℕ → List ℕ → Bank → List ℕ → View
-view ℓ k text m out = viewOf ℓ (look k (load text m)) out
+view ℓ k text m out = viewLoad ℓ k (load text m) out
 
 -- ---- the program
 
@@ -84,12 +88,13 @@ pub record SameView (v w : View) : Type 0 where
 abbrev pub runCall : Invocation
 runCall = record { request = Run; words = whole; labels = whole }
 
--- For any two accepted texts of equal setting that are alike at or below ℓ, and whose runs meet the provisos up to k: the
+-- For any two accepted images of equal setting that are alike at or below ℓ, and whose runs meet the provisos up to k: the
 -- two views from ℓ at k are the same, whatever output they get.
 abbrev pub SteadyView : Type 0
 SteadyView =
-    (ℓ k : ℕ) (text text′ : List ℕ) (memory memory′ : Bank) → Accepted (load text memory) → Accepted (load text′ memory′)
-    → (let s = stateOfLoad (load text memory) in
-    let t = stateOfLoad (load text′ memory′) in
+    (ℓ k : ℕ) (image image′ : Image) (memory memory′ : Bank) → Accepted (loadImage image memory)
+    → Accepted (loadImage image′ memory′)
+    → (let s = stateOfLoad (loadImage image memory) in
+    let t = stateOfLoad (loadImage image′ memory′) in
     SameSetting s t → LowEquivalent ℓ s t → Provisos ℓ k s (trace (runCall ∷ []) s) → Provisos ℓ k t (trace (runCall ∷ []) t)
-    → (out : List ℕ) → SameView (view ℓ k text memory out) (view ℓ k text′ memory′ out))
+    → (out : List ℕ) → SameView (viewLoad ℓ k (loadImage image memory) out) (viewLoad ℓ k (loadImage image′ memory′) out))

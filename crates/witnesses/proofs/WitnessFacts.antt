@@ -20,11 +20,11 @@ use Rattle.model.specs.Step.{running, step, steps}
 use Rattle.model.specs.Answer.{answer}
 use Rattle.model.specs.Text.{isDigit, digits, decimalFrom, wellWritten, number, field, readFields, fieldCount, lineOf, readLine, linesIn, lines}
 use Rattle.causes.specs.Tests.{firstRefusal}
-use Rattle.model.specs.Load.{headerInRange, gateInRange, entryInRange, inOrder, rising, headerTests, lineTests, judge, judgeHeader, judgeText, cleared, fill, load}
+use Rattle.model.specs.Load.{headerInRange, gateInRange, entryInRange, inOrder, rising, headerTests, lineTests, judgeM, judgeHeader, judge, judgeText, cleared, fill, load}
 use Rattle.model.specs.Listing.{decimalIn, decimal, fields, line, headLines, isListed, entryLine, entryLines}
 use Rattle.model.specs.Program.{stateOfLoad}
 use Rattle.model.specs.Seen.{within, exists, Seen, hidden, shown, seenAt, SeenControl, unseen, seen, seenControl, LowEquivalent}
-use Rattle.model.specs.Noninterference.{Invocation, lend, regain, answered, after, runStates, workStates, callStates, trace, final, atTick, reached, downgrades, gateCallsIn, timedFromOutside, StepsProvisos, Provisos, SameSetting}
+use Rattle.model.specs.Noninterference.{Invocation, fromText, lend, regain, answered, after, runStates, workStates, callStates, trace, final, atTick, reached, downgrades, gateCallsIn, timedFromOutside, StepsProvisos, Provisos, SameSetting}
 use Rattle.witnesses.specs.Witness.{each, eachLocation, sameSeen, samePair, sameCall, sameControl, sameSeenControl, lowEquivalent, noDowngrade, noGateIn, timedWithin, upTo, provisos, provisosHold, qualifies, textOf, Loads, Counterexample, fixedOf, usual, interrupted, oneRun, left, right, leftAt, rightAt, mainTable, downgrading, callingGate, timedBySecret, under, nothingThere, gateCalled, unbrokenTable, reachedTable}
 use Rattle.model.specs.Facts.{every}
 use Rattle.model.proofs.Facts.{stepping}
@@ -236,7 +236,7 @@ from-texts ℓ k s t l m =
     → reached k x (trace qs x) ≡ true → reached k y (trace rs y) ≡ true
     → LowEquivalent ℓ (atTick k x (trace qs x)) (atTick k y (trace rs y)))
     (ap stateOfLoad l) (ap stateOfLoad m)
-    (noninterference ℓ k (textOf s) (textOf t) (s .memory) (t .memory) (ap (λ a. a .outcome) l) (ap (λ a. a .outcome) m))
+    (noninterference ℓ k (fromText (textOf s)) (fromText (textOf t)) (s .memory) (t .memory) (ap (λ a. a .outcome) l) (ap (λ a. a .outcome) m))
 
 -- Two machines of one fixed part that load, start alike and qualify are alike at k.
 pub alike-at : (ℓ k : ℕ) (s t : State) (qs rs : List Invocation) → Loads s → Loads t → s .fixed ≡ t .fixed
@@ -272,7 +272,7 @@ counterexample ℓ k s t qs met l m e p q =
 
 -- All that a table computes with, beyond a step. Who says `unfolding computing` opens each of them.
 unfoldable pub computing : Bool
-unfolding stepping highest answer within exists seenAt seenControl lend regain answered after runStates workStates callStates trace final atTick reached downgrades gateCallsIn timedFromOutside sameSeen samePair sameCall sameControl sameSeenControl isDigit digits decimalFrom wellWritten number field readFields fieldCount lineOf readLine linesIn lines headerInRange gateInRange entryInRange inOrder rising headerTests lineTests firstRefusal judge judgeHeader judgeText cleared fill load decimalIn decimal fields line headLines isListed entryLine entryLines
+unfolding stepping highest answer within exists seenAt seenControl lend regain answered after runStates workStates callStates trace final atTick reached downgrades gateCallsIn timedFromOutside sameSeen samePair sameCall sameControl sameSeenControl isDigit digits decimalFrom wellWritten number field readFields fieldCount lineOf readLine linesIn lines headerInRange gateInRange entryInRange inOrder rising headerTests lineTests firstRefusal judgeM judgeHeader judge judgeText cleared fill load decimalIn decimal fields line headLines isListed entryLine entryLines
 computing = true
 
 -- The two machines of the main witness differ as their table says, at a sound label and at one that isn't.
