@@ -2,4 +2,3 @@ pub mod Reading
 pub mod Copying
 pub mod Behind
 pub mod Answer
-pub mod Faithful

@@ -1,4 +1,4 @@
--- What the programs print fits their buffer: every reply takes at most 45,718 bytes, for every text and every memory, a
+-- What the programs print fits their buffer: every reply takes at most 45,718 bytes, for every image and every memory, a
 -- view's for every label and tick, so that an output of 65,536 bytes is never too short. Nor is a memory of 2,048 words and
 -- labels.
 -- Assumes nothing.
@@ -18,15 +18,18 @@ use Rattle.labels.specs.Label.{highest}
 use Rattle.model.specs.Record.{Bank, State}
 use Rattle.model.specs.Numbers.{letterR, letterW, letterX, registerCount}
 use Rattle.model.specs.Step.{run, runTo}
-use Rattle.model.specs.Load.{load}
+use Rattle.model.specs.Load.{Loading, load}
+use Rattle.model.specs.HexLoad.{loadHex}
 use Rattle.model.specs.Listing.{line, listingFor}
-use Rattle.model.specs.Program.{stateOfLoad, reply, Firing, fire, fireWhole, programMemory}
+use Rattle.model.specs.Program.{stateOfLoad, reply, Firing, fireLoad, fireLoadWhole, programMemory}
 use Rattle.model.specs.View.{Look, look, viewReply}
 use Rattle.model.proofs.Truth.{choice}
 use Rattle.model.proofs.Ready.{Ready}
 use Rattle.model.proofs.Load.{load-not-short}
+use Rattle.model.proofs.HexLoad.{hex-not-short}
+use Rattle.model.proofs.Run.{run-ready}
 use Rattle.model.proofs.RunTo.{run-to-ready}
-use Rattle.model.proofs.Program.{load-ready, run-load-ready}
+use Rattle.model.proofs.Program.{ReadyLoad, load-ready}
 use Rattle.texts.specs.Inner.Sight.{controlSeen}
 use Rattle.texts.proofs.Fields.{line-most}
 use Rattle.texts.proofs.Listing.{head-for-most, listing-length}
@@ -50,12 +53,11 @@ refusal-bound : (number value : ℕ) → length (line letterX (number ∷ value 
 refusal-bound number value = omega (arith, line-most letterX (number ∷ value ∷ []))
 
 -- A reply: that listing, or a refusal's line.
-pub reply-bound : (text : List ℕ) (m : Bank) → length (reply (load text m)) ≤ 45718
+pub reply-bound : (a : Loading) → ReadyLoad a → length (reply a) ≤ 45718
 unfolding reply
-reply-bound text m =
-    let a = load text m in
+reply-bound a r =
     choice (λ (o : List ℕ). length o ≤ 45718) (isDone (a .outcome)) _ _
-    (λ e. ready-bound highest (run (stateOfLoad a)) (run-load-ready text m (is-done (a .outcome) e)))
+    (λ e. ready-bound highest (run (stateOfLoad a)) (run-ready (stateOfLoad a) (r (is-done (a .outcome) e))))
     (λ e. refusal-bound (numberOf (a .outcome)) (a .line))
 
 -- A view's reply: the listing at a tick, or a refusal's line.
@@ -72,9 +74,9 @@ view-reply-bound ℓ k text m =
     (λ e. refusal-bound (numberOf (a .outcome)) (a .line))
 
 -- So an output of 65,536 bytes gets the reply whole.
-pub whole-reply : (text : List ℕ) (m : Bank) (out : List ℕ) → 65536 ≤ length out → fire text m out ≡ fireWhole text m out
-unfolding fire fireWhole
-whole-reply text m out h = rw (le-leb (length (reply (load text m))) (length out) (omega (arith, reply-bound text m)))
+pub whole-reply : (a : Loading) → ReadyLoad a → (out : List ℕ) → 65536 ≤ length out → fireLoad a out ≡ fireLoadWhole a out
+unfolding fireLoad fireLoadWhole
+whole-reply a r out h = rw (le-leb (length (reply a)) (length out) (omega (arith, reply-bound a r)))
 
 -- The bytes of a text that stands at the start of an output count bytes of the output.
 pub front-counts : (o out : List ℕ)
@@ -82,14 +84,23 @@ pub front-counts : (o out : List ℕ)
 front-counts o out = rw (take-append-seam o (drop (length o) out), length-append o (drop (length o) out)) (omega arith, refl)
 
 -- So do those that were written of a reply.
-pub whole-counts : (text : List ℕ) (m : Bank) (out : List ℕ) (f : Firing) → f ≡ fireWhole text m out
+pub whole-counts : (a : Loading) (out : List ℕ) (f : Firing) → f ≡ fireLoadWhole a out
     → (f .bytes ≤ length (f .output)) × (f .bytes ≡ length (take (f .bytes) (f .output)))
-unfolding fireWhole
-whole-counts text m out f e = rw e (front-counts (reply (load text m)) out)
+unfolding fireLoadWhole
+whole-counts a out f e = rw e (front-counts (reply a) out)
 
--- The program's memory is never too short for a text: its reply is never that of refusal 6.
-pub alone-not-short : (text : List ℕ) → load text programMemory .outcome ≡ Refused ShortMemory → ⊥
+-- The program's memory is never too short for an image: its reply is never that of refusal 6.
+words-enough : 2048 ≤ length (programMemory .values)
 unfolding programMemory
-alone-not-short text =
-    load-not-short programMemory (rw (length-replicate {A = ℕ} 2048 0) (omega arith)) (rw (length-replicate {A = ℕ} 2048 0) (omega arith))
-    text
+words-enough = rw (length-replicate {A = ℕ} 2048 0) (omega arith)
+
+labels-enough : 2048 ≤ length (programMemory .labels)
+unfolding programMemory
+labels-enough = rw (length-replicate {A = ℕ} 2048 0) (omega arith)
+
+pub alone-not-short : (text : List ℕ) → load text programMemory .outcome ≡ Refused ShortMemory → ⊥
+alone-not-short text = load-not-short programMemory words-enough labels-enough text
+
+pub hex-alone-not-short : (text hex : List ℕ) (label : ℕ) → loadHex text hex label programMemory .outcome ≡ Refused ShortMemory
+    → ⊥
+hex-alone-not-short text hex label = hex-not-short programMemory words-enough labels-enough text hex label

@@ -1,5 +1,5 @@
--- What the lent memory held before a firing or a view does not show: into any two memories of the same lengths a text gives
--- one reply. So a file that is fired again, or after another, prints what it prints in a fresh memory.
+-- What the lent memory held before a firing or a view does not show: into any two memories of the same lengths an image
+-- gives one reply. So a file that is fired again, or after another, prints what it prints in a fresh memory.
 -- Assumes nothing.
 use Prim.Native.Nat.{ℕ, zero, suc, _+_, _-_, _<_, _≤_}
 use mathlib.Core.Path.{_≡_, refl, ap, _∙_, sym, subst}
@@ -11,7 +11,8 @@ use native.Mathlib.Omega.{arith}
 use lib.Dec.{leb, ltb}
 use lib.ListN.{length, drop, getD, replicate, length-set, length-append, length-replicate, List·getD-append}
 use borrow.Author.Tests.{ltb-true}
-use Rattle.labels.specs.Label.{lowest, highest}
+use Rattle.labels.specs.Label.{labelCount, lowest, highest}
+use Rattle.causes.specs.declared.Cause.{Cause}
 use Rattle.causes.specs.declared.Outcome.the-variants.{Done}
 use Rattle.causes.specs.Causes.{isDone}
 use Rattle.causes.proofs.Numbers.{is-done}
@@ -26,8 +27,10 @@ use Rattle.model.specs.declared.format.Line.{Line}
 use Rattle.model.specs.declared.format.Line.the-variants.{M, G, R, W, Malformed}
 use Rattle.model.specs.declared.judging.Header.{Header}
 use Rattle.model.specs.WellFormed.{lentWhole}
-use Rattle.model.specs.Text.{lines}
-use Rattle.model.specs.Load.{withEntry, headerTests, Verdict, refuse, accept, judgeHeader, judgeLines, judgeText, cleared, withWord, fill, Loading, settle, load}
+use Rattle.model.specs.Text.{readLine}
+use Rattle.model.specs.Hex.{records}
+use Rattle.model.specs.Load.{withEntry, headerTests, Verdict, refuse, accept, judgeM, judgeFirst, judgeHeader, linesBehind, judgeText, cleared, withWord, fill, Loading, refusal, settle, load}
+use Rattle.model.specs.HexLoad.{judgeAlone, noBytes, judgeRecords, wordAt, wordLabel, firsts, placed, settleRecords, settleHex, loadHex}
 use Rattle.model.specs.Program.{stateOfLoad, reply}
 use Rattle.model.specs.View.{look, viewReply}
 use Rattle.model.proofs.Truth.{either, and-iff}
@@ -35,7 +38,8 @@ use Rattle.model.proofs.Writes.{set-at, written-fixed}
 use Rattle.model.proofs.Legal.{LegalWrite, keeps, sets, marks}
 use Rattle.model.proofs.Ready.{Ready}
 use Rattle.model.proofs.Step.{step-write, step-ready}
-use Rattle.model.proofs.Program.{load-ready}
+use Rattle.model.proofs.HexLoad.{length-firsts}
+use Rattle.model.proofs.Program.{ReadyLoad, load-ready, hex-ready}
 use Rattle.model.proofs.View.{same-listing}
 use Rattle.texts.proofs.Ranges.{entry-range}
 use Rattle.texts.specs.Inner.Storable.{isStorable, storable}
@@ -347,17 +351,21 @@ fill-agree size (l ∷ ls) m n e x y a =
     let q = and-iff (isStorable size l) (storable size ls) .0 e in
     fill-agree size ls (withWord m l) (withWord n l) (q .1) (line-long l x) (line-long l y) (line-agree size l m n (q .0) x y a)
 
--- After the verdict on the text.
-settle-alike : (v : Verdict) (ls : List Line) (m n : Bank)
-    → ((r : Machine) → v ≡ accept r → storable (r .fixed .size) ls ≡ true) → LoadAlike (settle v ls m) (settle v ls n)
-unfolding cleared
-settle-alike (refuse cause line) ls m n f =
+-- A refusal.
+refusal-alike : (c : Cause) (line : ℕ) (m n : Bank) → LoadAlike (refusal c line m) (refusal c line n)
+refusal-alike c line m n =
     record {
       outcome = refl;
       line = refl;
       machine = refl;
       memory = record { values = λ k h. absurd (omega arith); labels = λ k h. absurd (omega arith) };
     }
+
+-- After the verdict on the text.
+settle-alike : (v : Verdict Machine) (ls : List Line) (m n : Bank)
+    → ((r : Machine) → v ≡ accept r → storable (r .fixed .size) ls ≡ true) → LoadAlike (settle v ls m) (settle v ls n)
+unfolding cleared
+settle-alike (refuse cause line) ls m n f = refusal-alike cause line m n
 settle-alike (accept r) ls m n f =
     let size = r .fixed .size in
     record {
@@ -371,83 +379,131 @@ settle-alike (accept r) ls m n f =
           (record { values = blank-same size 0 (m .values) (n .values); labels = blank-same size lowest (m .labels) (n .labels) });
     }
 
+-- After the verdicts on an M text and on the records of a HEX text.
+firsts-same : (size : ℕ) (f : ℕ → ℕ) (xs ys : List ℕ) (k : ℕ) → k < size
+    → getD (firsts size f ++ xs) k 0 ≡ getD (firsts size f ++ ys) k 0
+firsts-same size f xs ys k h =
+    let i : k < length (firsts size f) = rw (length-firsts size f) h in
+    List·getD-append (firsts size f) xs 0 k i ∙ sym (List·getD-append (firsts size f) ys 0 k i)
+
+records-alike : (r : Machine) (ℓ : ℕ) (v : Verdict (List ℕ)) (m n : Bank)
+    → LoadAlike (settleRecords r ℓ v m) (settleRecords r ℓ v n)
+unfolding placed
+records-alike r ℓ (refuse cause line) m n = refusal-alike cause line m n
+records-alike r ℓ (accept places) m n =
+    record {
+      outcome = refl;
+      line = refl;
+      machine = refl;
+      memory =
+          record {
+            values = firsts-same (r .fixed .size) (wordAt places) _ _;
+            labels = firsts-same (r .fixed .size) (wordLabel ℓ places) _ _;
+          };
+    }
+
+settle-hex-alike : (v : Verdict Machine) (hex : List ℕ) (ℓ : ℕ) (m n : Bank)
+    → LoadAlike (settleHex v hex ℓ m) (settleHex v hex ℓ n)
+settle-hex-alike (refuse cause line) hex ℓ m n = refusal-alike cause line m n
+settle-hex-alike (accept r) hex ℓ m n =
+    records-alike r ℓ (judgeRecords 1 (records hex) (noBytes (r .fixed .size))) m n
+
+-- ---- the reply
+
+-- What two such loads come to: one reply, and one view's reply for every label and tick.
+module _ (a b : Loading) (h : LoadAlike a b) (r : ReadyLoad a) (q : ReadyLoad b) where
+  states-alike : Alike (stateOfLoad a) (stateOfLoad b)
+  states-alike = record { machine = h .machine; memory = h .memory }
+
+  run-same : a .outcome ≡ Done → b .outcome ≡ Done → listing (run (stateOfLoad a)) ≡ listing (run (stateOfLoad b))
+  run-same z u =
+      let s = stateOfLoad a in
+      let t = stateOfLoad b in
+      listing-alike highest (run s) (run t) (run-alike s t states-alike (r z) (q u))
+
+  run-to-same : (ℓ k : ℕ) → a .outcome ≡ Done → b .outcome ≡ Done
+      → listingFor ℓ (runTo k (stateOfLoad a)) ≡ listingFor ℓ (runTo k (stateOfLoad b))
+  run-to-same ℓ k z u =
+      let s = stateOfLoad a in
+      let t = stateOfLoad b in
+      listing-alike ℓ (runTo k s) (runTo k t) (run-to-alike k s t states-alike (r z) (q u))
+
+  reply-same : reply a ≡ reply b
+  unfolding reply
+  reply-same =
+      ⊎-elim
+      (λ (z : isDone (a .outcome) ≡ true).
+      let i = is-done (a .outcome) z in
+      let j = sym (h .outcome) ∙ i in
+      rw (i, j) (run-same i j))
+      (λ (z : isDone (a .outcome) ≡ false).
+      let j = ap isDone (sym (h .outcome)) ∙ z in
+      rw (z, j) (rw (h .outcome, h .line) refl))
+      (either (isDone (a .outcome)))
+
+  view-reply-same : (ℓ k : ℕ) → viewReply ℓ (look k a) ≡ viewReply ℓ (look k b)
+  unfolding look
+  view-reply-same ℓ k =
+      ⊎-elim
+      (λ (z : isDone (a .outcome) ≡ true).
+      let i = is-done (a .outcome) z in
+      let j = sym (h .outcome) ∙ i in
+      ⊎-elim
+      (λ (e : leb k (a .machine .fixed .limit) ≡ true).
+      rw (i, j, e, (rw (h .machine) at e)) (run-to-same ℓ k i j))
+      (λ (e : leb k (a .machine .fixed .limit) ≡ false).
+      rw (i, j, e, (rw (h .machine) at e)) (rw (h .machine) refl))
+      (either (leb k (a .machine .fixed .limit))))
+      (λ (z : isDone (a .outcome) ≡ false).
+      let j = ap isDone (sym (h .outcome)) ∙ z in
+      rw (z, j) (rw (h .outcome, h .line) refl))
+      (either (isDone (a .outcome)))
+
+-- ---- in two memories of the same lengths
+
 module _ (m n : Bank) (e : length (m .values) ≡ length (n .values)) (f : length (m .labels) ≡ length (n .labels)) where
   -- The tests of the M line read the lengths of the memory alone.
   tests-same : (h : Header) → headerTests h m ≡ headerTests h n
   unfolding headerTests lentWhole
   tests-same h = rw (e, f)
 
-  lines-same : (ls : List Line) → judgeLines ls m ≡ judgeLines ls n
-  unfolding judgeHeader
-  lines-same [] = refl
-  lines-same (M size errorpc pc p t limit ∷ ls) =
+  first-same : (first : Line) → judgeFirst first m ≡ judgeFirst first n
+  unfolding judgeM
+  first-same (M size errorpc pc p t limit) =
       rw (tests-same (record { size = size; errorpc = errorpc; pc = pc; p = p; t = t; limit = limit }))
-  lines-same (G a b c ∷ ls) = refl
-  lines-same (R a b c ∷ ls) = refl
-  lines-same (W a b c ∷ ls) = refl
-  lines-same (Malformed ∷ ls) = refl
+  first-same (G a b c) = refl
+  first-same (R a b c) = refl
+  first-same (W a b c) = refl
+  first-same Malformed = refl
 
   -- So a text has one verdict.
   verdict-same : (text : List ℕ) → judgeText text m ≡ judgeText text n
-  unfolding judgeText
-  verdict-same text = rw (lines-same (lines text))
+  unfolding judgeText judgeHeader
+  verdict-same text = rw (first-same (readLine text .line))
 
   load-alike : (text : List ℕ) → LoadAlike (load text m) (load text n)
   unfolding load
-  load-alike text = rw (← verdict-same text) (settle-alike (judgeText text m) (lines text) m n (text-storable text m))
+  load-alike text =
+      rw (← verdict-same text) (settle-alike (judgeText text m) (linesBehind text) m n (text-storable text m))
 
-  -- ---- the reply
+  alone-same : (text : List ℕ) → judgeAlone text m ≡ judgeAlone text n
+  unfolding judgeAlone judgeHeader
+  alone-same text = rw (first-same (readLine text .line))
 
-  -- What an accepted text leaves.
-  loaded-alike : (text : List ℕ) → Alike (stateOfLoad (load text m)) (stateOfLoad (load text n))
-  loaded-alike text = let h = load-alike text in record { machine = h .machine; memory = h .memory }
-
-  -- An accepted text's listing, after its run and at a tick.
-  run-same : (text : List ℕ) → load text m .outcome ≡ Done → load text n .outcome ≡ Done
-      → listing (run (stateOfLoad (load text m))) ≡ listing (run (stateOfLoad (load text n)))
-  run-same text z u =
-      let s = stateOfLoad (load text m) in
-      let t = stateOfLoad (load text n) in
-      listing-alike highest (run s) (run t) (run-alike s t (loaded-alike text) (load-ready text m z) (load-ready text n u))
-
-  run-to-same : (ℓ k : ℕ) (text : List ℕ) → load text m .outcome ≡ Done → load text n .outcome ≡ Done
-      → listingFor ℓ (runTo k (stateOfLoad (load text m))) ≡ listingFor ℓ (runTo k (stateOfLoad (load text n)))
-  run-to-same ℓ k text z u =
-      let s = stateOfLoad (load text m) in
-      let t = stateOfLoad (load text n) in
-      listing-alike ℓ (runTo k s) (runTo k t) (run-to-alike k s t (loaded-alike text) (load-ready text m z) (load-ready text n u))
+  hex-alike : (text hex : List ℕ) (ℓ : ℕ) → LoadAlike (loadHex text hex ℓ m) (loadHex text hex ℓ n)
+  unfolding loadHex
+  hex-alike text hex ℓ = rw (← alone-same text) (settle-hex-alike (judgeAlone text m) hex ℓ m n)
 
   -- A text gives one reply in both.
   pub same-reply : (text : List ℕ) → reply (load text m) ≡ reply (load text n)
-  unfolding reply
-  same-reply text =
-      let h = load-alike text in
-      ⊎-elim
-      (λ (z : isDone (load text m .outcome) ≡ true).
-      let i = is-done (load text m .outcome) z in
-      let j = sym (h .outcome) ∙ i in
-      rw (i, j) (run-same text i j))
-      (λ (z : isDone (load text m .outcome) ≡ false).
-      let j = ap isDone (sym (h .outcome)) ∙ z in
-      rw (z, j) (rw (h .outcome, h .line) refl))
-      (either (isDone (load text m .outcome)))
+  same-reply text = reply-same _ _ (load-alike text) (load-ready text m) (load-ready text n)
 
   -- And one view's reply, for every label and tick.
   pub same-view-reply : (ℓ k : ℕ) (text : List ℕ) → viewReply ℓ (look k (load text m)) ≡ viewReply ℓ (look k (load text n))
-  unfolding look
-  same-view-reply ℓ k text =
-      let h = load-alike text in
-      ⊎-elim
-      (λ (z : isDone (load text m .outcome) ≡ true).
-      let i = is-done (load text m .outcome) z in
-      let j = sym (h .outcome) ∙ i in
-      ⊎-elim
-      (λ (e : leb k (load text m .machine .fixed .limit) ≡ true).
-      rw (i, j, e, (rw (h .machine) at e)) (run-to-same ℓ k text i j))
-      (λ (e : leb k (load text m .machine .fixed .limit) ≡ false).
-      rw (i, j, e, (rw (h .machine) at e)) (rw (h .machine) refl))
-      (either (leb k (load text m .machine .fixed .limit))))
-      (λ (z : isDone (load text m .outcome) ≡ false).
-      let j = ap isDone (sym (h .outcome)) ∙ z in
-      rw (z, j) (rw (h .outcome, h .line) refl))
-      (either (isDone (load text m .outcome)))
+  same-view-reply ℓ k text = view-reply-same _ _ (load-alike text) (load-ready text m) (load-ready text n) ℓ k
+
+  -- So does an M text with a HEX text and a label.
+  pub same-hex-reply : (text hex : List ℕ) (ℓ : ℕ) → ℓ < labelCount
+      → reply (loadHex text hex ℓ m) ≡ reply (loadHex text hex ℓ n)
+  same-hex-reply text hex ℓ is =
+      reply-same _ _ (hex-alike text hex ℓ) (hex-ready text hex ℓ m is) (hex-ready text hex ℓ n is)

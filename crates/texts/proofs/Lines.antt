@@ -1,11 +1,10 @@
 -- The lines of a text: its first line and the lines of the rest, judged or written one by one.
 -- Assumes nothing.
-use Prim.Native.Nat.{ℕ, zero, suc, _≤_, _<_}
-use mathlib.Core.Path.{_≡_, refl, sym, ap, _∙_}
-use mathlib.Core.List.{List, [], _∷_}
-use native.Mathlib.Nat.{le-refl}
+use Prim.Native.Nat.{ℕ, _<_}
+use mathlib.Core.Path.{_≡_, refl, ap, _∙_}
+use mathlib.Core.List.{List, _∷_}
 use native.Mathlib.Omega.{arith}
-use lib.ListN.{length, drop, length-drop}
+use lib.ListN.{length, drop}
 use Rattle.causes.specs.Tests.{firstRefusal}
 use Rattle.model.specs.declared.format.Line.{Line}
 use Rattle.model.specs.declared.format.Line.the-variants.{M, G, R, W, Malformed}
@@ -14,6 +13,7 @@ use Rattle.model.specs.Record.{Bank, Machine}
 use Rattle.model.specs.Text.{readLine, onwards, linesIn, lines}
 use Rattle.model.specs.Load.{lineTests, judge, withWord, fill}
 use Rattle.texts.proofs.Text.{sized}
+use Rattle.texts.proofs.Pieces.{Pieces, first-of}
 
 -- ---- the first line and the lines of the rest
 
@@ -29,40 +29,23 @@ onwards-same (W a b c) ls ms h =
     ap (λ (r : List Line). W a b c ∷ r) (h (λ x. let z : _≡_ {A = ℕ} 0 1 = cc in omega arith))
 onwards-same Malformed ls ms h = refl
 
--- An empty text has no lines.
-none : (k : ℕ) → linesIn k [] ≡ []
+-- Lines are read one by one, each from where the last one ended.
+line-pieces : Pieces linesIn (λ xs ls. onwards (readLine xs .line) ls) (λ xs. readLine xs .next) (λ xs. readLine xs .line ≡ Malformed → ⊥)
 unfolding linesIn
-none zero = refl
-none (suc k) = refl
-
--- What is behind a line is shorter, unless the line is malformed.
-shorter : (b : ℕ) (xs : List ℕ) (k : ℕ) → length (b ∷ xs) ≤ suc k → (readLine (b ∷ xs) .line ≡ Malformed → ⊥)
-    → length (drop (readLine (b ∷ xs) .next) (b ∷ xs)) ≤ k
-shorter b xs k h m =
-    omega (arith, length-drop (readLine (b ∷ xs) .next) (b ∷ xs), sized (b ∷ xs) .moves m, sized (b ∷ xs) .within)
-
--- As many lines as there are bytes are enough: more give the same.
-pub enough : (j k : ℕ) (xs : List ℕ) → length xs ≤ j → length xs ≤ k → linesIn j xs ≡ linesIn k xs
-unfolding linesIn
-enough zero k [] h g = sym (none k)
-enough zero k (b ∷ xs) h g = absurd (omega arith)
-enough (suc j) k [] h g = sym (none k)
-enough (suc j) zero (b ∷ xs) h g = absurd (omega arith)
-enough (suc j) (suc k) (b ∷ xs) h g =
-    onwards-same (readLine (b ∷ xs) .line) _ _
-    (λ m. enough j k (drop (readLine (b ∷ xs) .next) (b ∷ xs)) (shorter b xs j h m) (shorter b xs k g m))
+line-pieces =
+    record {
+      none = λ xs. refl;
+      empty = λ k. refl;
+      more = λ k b xs. refl;
+      same = λ xs. onwards-same (readLine xs .line);
+      moves = λ xs. sized xs .moves;
+    }
 
 -- The lines of a text that isn't empty: its first line and the lines of the rest.
 pub lines-first : (xs : List ℕ) → 0 < length xs
     → lines xs ≡ onwards (readLine xs .line) (lines (drop (readLine xs .next) xs))
-unfolding lines linesIn
-lines-first [] h = absurd (omega arith)
-lines-first (b ∷ xs) h =
-    onwards-same (readLine (b ∷ xs) .line) _ _
-    (λ m.
-    enough (length xs) (length (drop (readLine (b ∷ xs) .next) (b ∷ xs))) (drop (readLine (b ∷ xs) .next) (b ∷ xs))
-    (shorter b xs (length xs) (le-refl _) m)
-    (le-refl _))
+unfolding lines
+lines-first = first-of line-pieces
 
 -- ---- judged
 

@@ -11,8 +11,7 @@ use Rattle.model.specs.declared.format.Line.{Line}
 use Rattle.model.specs.declared.format.Line.the-variants.{M, G, R, W, Malformed}
 use Rattle.model.specs.declared.judging.Last.{Last}
 use Rattle.model.specs.Record.{Bank, Machine}
-use Rattle.model.specs.Text.{lines}
-use Rattle.model.specs.Load.{machineOfHeader, lineTests, behindHeader, lastOf, withLine, accept, judge, judgeText}
+use Rattle.model.specs.Load.{lineTests, behindHeader, lastOf, withLine, accept, judge, linesBehind, judgeText}
 use Rattle.model.proofs.Truth.{and-iff, clash}
 use Rattle.model.proofs.Load.{judge-accept, line-size, judge-size, text-accepts}
 use Rattle.texts.specs.Inner.Storable.{isStorable, storable}
@@ -45,10 +44,8 @@ accepted-storable r last n (l ∷ ls) r′ e =
     )
 
 pub text-storable : (text : List ℕ) (m : Bank) (r : Machine) → judgeText text m ≡ accept r
-    → storable (r .fixed .size) (lines text) ≡ true
-unfolding storable
+    → storable (r .fixed .size) (linesBehind text) ≡ true
 text-storable text m r e =
     let a = text-accepts text m r e in
-    ap (storable (r .fixed .size)) (a .is)
-    ∙ ap (λ (n : ℕ). storable n (a .rest)) (judge-size (machineOfHeader (a .header)) behindHeader 2 (a .rest) r (a .judged))
-    ∙ accepted-storable (machineOfHeader (a .header)) behindHeader 2 (a .rest) r (a .judged)
+    ap (λ (n : ℕ). storable n (linesBehind text)) (judge-size (a .first) behindHeader 2 (linesBehind text) r (a .behind))
+    ∙ accepted-storable (a .first) behindHeader 2 (linesBehind text) r (a .behind)

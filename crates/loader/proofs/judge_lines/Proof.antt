@@ -2,13 +2,15 @@
 -- words those of all lines are kept. Each turn takes a line, of a byte at least.
 -- Assumes nothing.
 use Prim.Native.Nat.{ℕ, _+_, _-_, _≤_}
-use mathlib.Core.Path.{refl}
+use mathlib.Core.Path.{refl, ap}
 use mathlib.Core.List.{List}
 use native.Mathlib.Omega.{arith}
 use lib.ListN.{length}
 use borrow.Author.Needs.{needs}
 use Rattle.machine.specs.Answered.{recordOf}
-use Rattle.model.specs.Record.{lent}
+use Rattle.model.specs.Record.{Machine, lent}
+use Rattle.model.specs.Load.{Verdict}
+use Rattle.header.specs.Loading.{headed}
 use Rattle.loader.proofs.Behind.{refused-lines}
 use Rattle.loader.proofs.Reading.{At, read-at, Judged, Kept, judged-refused, Accepted, accepted-moves, accepted-taken, accepted-stored, judged-more, kept-more, judged-end, kept-end}
 use Rattle.loader.proofs.judge_lines.Statement.{statement}
@@ -149,7 +151,9 @@ returns-2 : tie.Need-returns-2 Inv-loop μ-loop
 returns-2 c =
     let end = c .before .loop in
     record {
-      verdict = judged-end _ _ _ (recordOf (end .machine)) _ _ _ (end .inv .0) (c .loop-test .left);
+      answer =
+          λ w l. ap (λ (v : Verdict Machine). headed v (lent w l))
+          (judged-end _ _ _ (recordOf (end .machine)) _ _ _ (end .inv .0) (c .loop-test .left));
       kept = λ e. kept-end _ _ _ _ _ _ _ (end .inv .1) (c .loop-test .left);
     }
 

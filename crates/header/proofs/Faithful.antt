@@ -5,8 +5,8 @@ use mathlib.Core.Path.{_≡_, ap}
 use mathlib.Core.List.{List}
 use Rattle.model.specs.Load.{Loading}
 use Rattle.machine.proofs.Faithful.{structOf}
-use Rattle.loader.specs.declared.Loaded.{Loaded}
-use Rattle.loader.specs.Load.{loadingOf}
+use Rattle.header.specs.declared.Loaded.{Loaded}
+use Rattle.header.specs.Loading.{loadingOf}
 
 -- Equal answers come from equal structs.
 pub same-answer : (r r′ : Loaded) (w l w′ l′ : List ℕ) → loadingOf r w l ≡ loadingOf r′ w′ l′ → r ≡ r′

@@ -1,10 +1,10 @@
--- `loader::machine_of` meets its contract: the numbers of an M line in their ranges fit the record.
+-- `header::machine_of` meets its contract: the numbers of an M line in their ranges fit the record.
 -- Assumes nothing.
 use native.Mathlib.Omega.{arith}
 use borrow.Author.Needs.{needs}
 use Rattle.texts.proofs.Ranges.{header-range}
-use Rattle.loader.proofs.machine_of.Statement.{statement}
-use Rattle.loader.proofs.machine_of.Tie as tie
+use Rattle.header.proofs.machine_of.Statement.{statement}
+use Rattle.header.proofs.machine_of.Tie as tie
 
 cast-t5 : tie.Need-cast-t5
 cast-t5 c = omega (arith, header-range _ (c .before .pre))
