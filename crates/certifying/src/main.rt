@@ -1,36 +1,18 @@
 // The program `certifying`: reads a text from standard input and prints up to which tick nothing that is hidden can show at
 // a label, which its one argument names: `V,cause,tick,place`, or `X,number,line` for a text that is refused. Arguments,
 // read, one call, write: what is printed for a text is promised by that call.
+use arguments::Named;
+use arguments::label_argument;
 use certify::OUTPUT;
 use certify::certify_alone;
 use intake::read_whole;
-use labels::LABEL_COUNT;
 use libc::STDERR_FILENO;
 use libc::STDIN_FILENO;
 use libc::STDOUT_FILENO;
-use model::format::Number;
-use reader::read_alone;
-
-// The argument's word: a label, or none.
-enum Named {
-    Label(u8),
-    Nothing,
-}
 
 // Says on standard error what went wrong.
 fn complain(what: &[u8]) {
     io::write_all(STDERR_FILENO, what);
-}
-
-// The label that a word writes as a text does: one to ten digits without leading zeros, and nothing behind them.
-fn label_of(word: &[u8]) -> Named {
-    let Number::Value(value, _) = read_alone(word) else {
-        return Named::Nothing;
-    };
-    if value < LABEL_COUNT as u64 {
-        return Named::Label(value as u8);
-    }
-    Named::Nothing
 }
 
 // The label that the one argument names.
@@ -38,12 +20,7 @@ fn read_label() -> Named {
     if os::arg_count() != 2 {
         return Named::Nothing;
     }
-    let mut word = io::buffer();
-    let length = os::arg(1, &mut word);
-    if os::errno() != 0 {
-        return Named::Nothing;
-    }
-    label_of(&word[..length])
+    label_argument(1)
 }
 
 // Certifies a text and writes what comes of it.

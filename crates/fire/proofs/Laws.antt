@@ -1,31 +1,28 @@
--- From what load, run, print and the line writer promise to what `fire` promises.
+-- From what run, print and the line writer promise to what `fire_loaded` promises, and that this is a load fired.
 -- Assumes nothing.
 use Prim.Native.Nat.{ℕ, _<_, _≤_}
-use mathlib.Core.Path.{_≡_, refl, sym, ap, _∙_}
+use mathlib.Core.Path.{_≡_, refl, ap, _∙_}
+use mathlib.Core.Logic.{⊎-elim}
 use mathlib.Core.Bool.{Bool, true, false, cond}
 use mathlib.Core.List.{List, [], _∷_, _++_}
 use lib.Dec.{leb}
 use lib.ListN.{length, drop}
 use Rattle.causes.specs.declared.Outcome.the-variants.{Done}
 use Rattle.causes.specs.Causes.{numberOf, isDone}
+use Rattle.causes.proofs.Numbers.{is-done}
 use borrow.Author.Tests.{le-leb, lt-leb}
 use Rattle.model.specs.Record.{Bank}
 use Rattle.model.specs.Step.{run}
 use Rattle.model.specs.Answer.{Answer, runAnswer}
-use Rattle.model.specs.Load.{Loading, load}
+use Rattle.model.specs.Load.{Loading}
 use Rattle.model.specs.Listing.{line, listing, Printing, listed, print}
-use Rattle.model.specs.Program.{stateOfLoad, reply, memoryAfter, Firing, fire}
-use Rattle.model.proofs.Program.{run-done, print-done, load-ready, run-load-ready}
+use Rattle.model.specs.Program.{stateOfLoad, reply, memoryAfter, Firing, fireLoad}
+use Rattle.model.proofs.Truth.{either}
+use Rattle.model.proofs.Ready.{Ready}
+use Rattle.model.proofs.Run.{run-ready}
+use Rattle.model.proofs.Program.{ReadyLoad, run-done, print-done}
 use Rattle.writer.specs.Writing.{Writing, answer, over, written, writing}
-use Rattle.fire.specs.Inner.Refusing.{refusing}
-
--- What was printed, and the memory, as a firing.
-abbrev printed : Printing → Bank → Firing
-printed p m = record { bytes = p .bytes; output = p .output; memory = m }
-
--- What the line writer wrote, and the memory, as a firing.
-abbrev wrote : Writing → Bank → Firing
-wrote w m = record { bytes = w .count; output = w .output; memory = m }
+use Rattle.fire.specs.InTurn.{refusing, wrote, printed, inTurn}
 
 -- Either way of a choice.
 choice-printed : (b : Bool) (p q : Printing) (m : Bank) → printed (cond b p q) m ≡ cond b (printed p m) (printed q m)
@@ -69,22 +66,44 @@ module _ (number place : ℕ) (out : List ℕ) {count : ℕ} {after : List ℕ}
         let o = rw t at (ap (λ (w : Writing). w .output) told) in
         rw (t, o, count-told)
 
-module _ (text : List ℕ) (m : Bank) (out : List ℕ) (a : Loading) (e : a ≡ load text m) where
-  -- A refused load: the line writer wrote its number and line.
-  pub refused-firing : {number place : ℕ} (w : Writing) → isDone (a .outcome) ≡ false → number ≡ numberOf (a .outcome)
-      → place ≡ a .line → w ≡ refusing number place out → wrote w (a .memory) ≡ fire text m out
-  unfolding fire reply memoryAfter refusing
-  refused-firing w h n l f =
-      let o = line 88 (numberOf (a .outcome) ∷ a .line ∷ []) in
-      rw (f, l, n, ← e, h) (choice-wrote (leb (length o) (length out)) o out (a .memory))
+-- ---- a load fired in turn
 
-  -- An accepted load: its state was run, and the state after the run printed.
-  pub accepted-firing : (b : Answer) (p : Printing) → a .outcome ≡ Done → b ≡ runAnswer (a .machine) (a .memory)
-      → p ≡ print (b .machine) (b .memory) out → printed p (b .memory) ≡ fire text m out
-  unfolding fire reply memoryAfter listed
-  accepted-firing b p y f g =
-      let z : load text m .outcome ≡ Done = ap (λ (x : Loading). x .outcome) (sym e) ∙ y in
-      let s = stateOfLoad (load text m) in
-      let i = (rw e at f) ∙ run-done s (load-ready text m z) in
-      let j = (rw i at g) ∙ print-done _ (run s) out (run-load-ready text m z) in
-      rw (j, i, z) (choice-printed (leb (length (listing (run s))) (length out)) _ _ (run s .memory))
+-- A refused load: the line writer wrote its number and line.
+refused-in-turn : (a : Loading) (out : List ℕ) → isDone (a .outcome) ≡ false → inTurn a out ≡ fireLoad a out
+unfolding inTurn refusing fireLoad reply memoryAfter
+refused-in-turn a out h =
+    let o = line 88 (numberOf (a .outcome) ∷ a .line ∷ []) in
+    rw h (choice-wrote (leb (length o) (length out)) o out (a .memory))
+
+-- An accepted load: its state was run, and the state after the run printed.
+accepted-in-turn : (a : Loading) (out : List ℕ) → a .outcome ≡ Done → Ready (stateOfLoad a) → inTurn a out ≡ fireLoad a out
+unfolding inTurn fireLoad reply memoryAfter listed
+accepted-in-turn a out z r =
+    let s = stateOfLoad a in
+    rw (z, run-done s r, print-done _ (run s) out (run-ready s r))
+    (choice-printed (leb (length (listing (run s))) (length out)) _ _ (run s .memory))
+
+-- Either is the load fired.
+pub in-turn : (a : Loading) → ReadyLoad a → (out : List ℕ) → inTurn a out ≡ fireLoad a out
+in-turn a r out =
+    ⊎-elim (λ (e : isDone (a .outcome) ≡ true). let z = is-done (a .outcome) e in accepted-in-turn a out z (r z))
+    (λ (e : isDone (a .outcome) ≡ false). refused-in-turn a out e) (either (isDone (a .outcome)))
+
+-- So is what was fired so behind a load that gives this.
+pub load-fired : {a : Loading} (b : Loading) (out : List ℕ) (f : Firing) → ReadyLoad b → a ≡ b → f ≡ inTurn a out
+    → f ≡ fireLoad b out
+load-fired b out f r e g = g ∙ ap (λ (x : Loading). inTurn x out) e ∙ in-turn b r out
+
+-- ---- what `fire_loaded` has done
+
+-- A refusal's line was written.
+pub refused-firing : (a : Loading) (out : List ℕ) {number : ℕ} (w : Writing) → isDone (a .outcome) ≡ false
+    → number ≡ numberOf (a .outcome) → w ≡ refusing number (a .line) out → wrote w (a .memory) ≡ inTurn a out
+unfolding inTurn
+refused-firing a out w h n f = rw (f, n, h)
+
+-- The state was run, and the state after the run printed.
+pub accepted-firing : (a : Loading) (out : List ℕ) (b : Answer) (p : Printing) → a .outcome ≡ Done
+    → b ≡ runAnswer (a .machine) (a .memory) → p ≡ print (b .machine) (b .memory) out → printed p (b .memory) ≡ inTurn a out
+unfolding inTurn
+accepted-firing a out b p z f g = rw (z, g, f)

@@ -1,3 +1,2 @@
 pub mod Fired
--- What only the contracts of inner functions cite.
-pub mod Inner
+pub mod InTurn

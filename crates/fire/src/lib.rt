@@ -1,7 +1,8 @@
 // Firing a text: it is loaded into lent memory, run to its end, and its listing is written into lent output. A text that
-// is refused gets the line `X,number,line` instead.
+// is refused gets the line `X,number,line` instead. What follows a load is a function of its own, for images of every kind.
 use causes::Outcome;
 use loader::load;
+use machine::Machine;
 use model::numbers;
 use printer::print;
 use writer::write_line;
@@ -11,8 +12,9 @@ ghost use lib.ListN.{length, take};
 ghost use Rattle.model.specs.Record.{lent};
 ghost use Rattle.model.specs.Program.{fire, fireWhole, fireAlone};
 ghost use Rattle.writer.specs.Writing.{answer};
+ghost use Rattle.machine.specs.Answered.{recordOf};
 ghost use Rattle.fire.specs.Fired.{fired, replied};
-ghost use Rattle.fire.specs.Inner.Refusing.{refusing};
+ghost use Rattle.fire.specs.InTurn.{refusing, inTurn};
 
 // The letter of a refusal's line.
 const X: u8 = b'X';
@@ -30,12 +32,25 @@ pub fn fire(text: &[u8], words: &mut [u32], labels: &mut [u8], out: &mut [u8]) -
 {
     let loaded = load(text, words, labels);
     let outcome = loaded.outcome;
-    let Outcome::Done = outcome else {
-        let number = outcome.number() as u64;
-        let line = loaded.line as u64;
-        return write_refusal(out, number, line);
-    };
     let machine = loaded.machine;
+    fire_loaded(outcome, loaded.line as u64, machine, words, labels, out)
+}
+
+// Fires what a load has given: the machine is run and printed, or the line of a refusal is written. Gives how many bytes of
+// the output are written.
+pub fn fire_loaded(
+    outcome: Outcome,
+    line: u64,
+    machine: Machine,
+    words: &mut [u32],
+    labels: &mut [u8],
+    out: &mut [u8],
+) -> usize
+    ensures { λ r. ⌜ fired r (now (out .exit)) (now (words .exit)) (now (labels .exit)) ≡ inTurn (record { outcome = outcome; line = line; machine = recordOf machine; memory = lent (now (words .entry)) (now (labels .entry)) }) (now (out .entry)) ⌝ }
+{
+    let Outcome::Done = outcome else {
+        return write_refusal(out, outcome.number() as u64, line);
+    };
     let answer = machine.run(words, labels);
     let last = answer.machine;
     let printed = print(last, words, labels, out);

@@ -19,7 +19,7 @@ use Rattle.model.specs.Answer.{Answer, runToAnswer}
 use Rattle.model.specs.Load.{Loading, load}
 use Rattle.model.specs.Listing.{line, listingFor, Printing, listed, printFor}
 use Rattle.model.specs.Program.{stateOfLoad, programMemory, Replied}
-use Rattle.model.specs.View.{Look, refused, arrived, look, View, viewOf, view, viewReply, viewAlone}
+use Rattle.model.specs.View.{Look, refused, arrived, look, View, viewOf, viewLoad, view, viewReply, viewAlone}
 use Rattle.model.proofs.Truth.{choice, clash}
 use Rattle.model.proofs.RunTo.{run-to-ready}
 use Rattle.model.proofs.Program.{load-ready, run-to-done, print-done}
@@ -34,21 +34,21 @@ module _ (ℓ k : ℕ) (text : List ℕ) (m : Bank) (out : List ℕ) (a : Loadin
   -- A refused one.
   pub refused-view : isDone (a .outcome) ≡ false
       → record { outcome = a .outcome; value = a .line; bytes = 0; output = out; memory = a .memory } ≡ view ℓ k text m out
-  unfolding view look
+  unfolding view viewLoad look
   refused-view h = rw (← e, h)
 
   -- 10 where the tick is above the limit.
   pub above-view : a .outcome ≡ Done → a .machine .fixed .limit < k
       → record { outcome = Refused TickAboveLimit; value = a .machine .fixed .limit; bytes = 0; output = out; memory = a .memory }
       ≡ view ℓ k text m out
-  unfolding view
+  unfolding view viewLoad
   above-view y h = rw (← e, look-above k a y (lt-leb k (a .machine .fixed .limit) h))
 
   -- Else the listing at the tick, or 8.
   pub listed-view : (b : Answer) (p : Printing) → a .outcome ≡ Done → k ≤ a .machine .fixed .limit
       → b ≡ runToAnswer k (a .machine) (a .memory) → p ≡ printFor ℓ (b .machine) (b .memory) out
       → record { outcome = p .outcome; value = 0; bytes = p .bytes; output = p .output; memory = b .memory } ≡ view ℓ k text m out
-  unfolding view
+  unfolding view viewLoad
   listed-view b p y h f g =
       let z : load text m .outcome ≡ Done = ap (λ (x : Loading). x .outcome) (sym e) ∙ y in
       let s = stateOfLoad (load text m) in
@@ -112,7 +112,7 @@ module _ (ℓ k : ℕ) (text out : List ℕ) (room : 65536 ≤ length out) (v : 
   fits = omega (arith, view-reply-bound ℓ k text programMemory)
 
   is : v ≡ viewOf ℓ (look k (load text programMemory)) out
-  unfolding view
+  unfolding view viewLoad
   is = e
 
   pub alone-done : v .outcome ≡ Done → record { bytes = v .bytes; output = v .output } ≡ viewAlone ℓ k text out

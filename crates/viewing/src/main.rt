@@ -1,13 +1,14 @@
 // The program `viewing`: reads a text from standard input, runs it to a tick, and prints what a label then sees: its listing,
 // or `X,number,line`, or `X,10,limit` where the tick is above the limit. Its two arguments name the label and the tick.
 // Arguments, read, one call, write: what is printed for a text is promised by that call.
+use arguments::Named;
+use arguments::label_argument;
+use arguments::number_argument;
 use intake::read_whole;
-use labels::LABEL_COUNT;
 use libc::STDERR_FILENO;
 use libc::STDIN_FILENO;
 use libc::STDOUT_FILENO;
 use model::format::Number;
-use reader::read_alone;
 use view::OUTPUT;
 use view::view_alone;
 
@@ -16,36 +17,23 @@ fn complain(what: &[u8]) {
     io::write_all(STDERR_FILENO, what);
 }
 
-// The number that an argument writes as a text does: one to ten digits without leading zeros, and nothing behind them.
-fn argument(k: usize) -> Number {
-    let mut word = io::buffer();
-    let length = os::arg(k, &mut word);
-    if os::errno() != 0 {
-        return Number::Bad;
-    }
-    read_alone(&word[..length])
-}
-
-// What the two arguments name: a label and a tick, or nothing.
-enum Named {
+// What the two arguments ask for: a label and a tick, or nothing.
+enum Asked {
     View(u8, u64),
     Nothing,
 }
 
-fn read_arguments() -> Named {
+fn read_arguments() -> Asked {
     if os::arg_count() != 3 {
-        return Named::Nothing;
+        return Asked::Nothing;
     }
-    let Number::Value(label, _) = argument(1) else {
-        return Named::Nothing;
+    let Named::Label(label) = label_argument(1) else {
+        return Asked::Nothing;
     };
-    let Number::Value(tick, _) = argument(2) else {
-        return Named::Nothing;
+    let Number::Value(tick, _) = number_argument(2) else {
+        return Asked::Nothing;
     };
-    if label < LABEL_COUNT as u64 {
-        return Named::View(label as u8, tick);
-    }
-    Named::Nothing
+    Asked::View(label, tick)
 }
 
 // Views a text and writes what comes of it.
@@ -58,8 +46,8 @@ fn reply(label: u8, tick: u64, text: &[u8]) {
 }
 
 fn main() {
-    let named = read_arguments();
-    let Named::View(label, tick) = named else {
+    let asked = read_arguments();
+    let Asked::View(label, tick) = asked else {
         complain(b"viewing: the arguments are a label, 0 to 255, and a tick\n");
         return;
     };
