@@ -1,9 +1,9 @@
-/* The labelled kiln machine: load, step, run and print over buffers that the caller lends, listings for one viewer,
- * certificates, and the label rules.
+/* The labelled kiln machine: load, from a text or from Intel HEX, step, run and print over buffers that the caller
+ * lends, listings for one viewer, certificates, and the label rules.
  *
- * A call gets each buffer as a pointer and a length in elements. A pointer is aligned and not null, at length 0 too;
- * a buffer that a call may change overlaps no other one. Nothing is kept between calls. No call reads or writes behind
- * a length that it was given. */
+ * A call gets each buffer as a pointer and a length in elements; the one word for a line, of jennydusk_load_hex, as a
+ * pointer alone. A pointer is aligned and not null, at length 0 too; a buffer that a call may change overlaps no other
+ * one. Nothing is kept between calls. No call reads or writes behind a length that it was given. */
 #ifndef JENNYDUSK_H
 #define JENNYDUSK_H
 
@@ -11,7 +11,7 @@
 #include <stddef.h>
 #include <stdint.h>
 
-#define JENNYDUSK_VERSION "3.1.1"
+#define JENNYDUSK_VERSION "3.2.0"
 
 #ifdef __cplusplus
 extern "C" {
@@ -71,7 +71,8 @@ extern "C" {
 #define JENNYDUSK_AT_LARGE 2
 #define JENNYDUSK_TIMED_FROM_OUTSIDE 3
 
-/* ---- answers: a number, with a line, a length or the limit above it */
+/* ---- answers: a number, with a line, a length or the limit above it; of jennydusk_load_hex the number alone, since a
+ * HEX text may have more lines than fit there */
 #define JENNYDUSK_NUMBER(answer) ((unsigned)((answer) % 256))
 #define JENNYDUSK_COUNT(answer) ((size_t)((answer) / 256))
 
@@ -79,7 +80,8 @@ extern "C" {
 #define JENNYDUSK_TEXT_LENGTH 1   /* the text is empty or above 65535 bytes; line 0 */
 #define JENNYDUSK_MALFORMED 2     /* letter, field count, digits or a missing LF; the first line is no M */
 #define JENNYDUSK_RANGE 3         /* a number outside its range; a ninth G */
-#define JENNYDUSK_ORDER 4         /* a kind out of order, a second M, a number that isn't rising */
+#define JENNYDUSK_ORDER 4         /* a kind out of order, a second M, a number that isn't rising; anything behind the one
+                                   * line of an M text */
 #define JENNYDUSK_PAIR 5          /* the pair of the M line is not valid */
 #define JENNYDUSK_SHORT_MEMORY 6  /* words or labels shorter than the size */
 #define JENNYDUSK_NO_RECORD 7     /* the record is not well-formed, as where register 0 isn't value 0, label 240; or the
@@ -88,6 +90,8 @@ extern "C" {
 #define JENNYDUSK_SHORT_OUTPUT 8  /* the output is shorter than the listing */
 #define JENNYDUSK_ZERO_REGISTER 9 /* an R line for register 0, whatever it says */
 #define JENNYDUSK_TICK 10         /* the tick of a view is above the limit, which stands beside the number */
+#define JENNYDUSK_HEX_RECORD 11   /* a record of wrong form, type, sum or ending; the line of the HEX text */
+#define JENNYDUSK_HEX_BYTE 12     /* a byte outside the memory, or given twice; the line of the HEX text */
 #define JENNYDUSK_SHORT_BUFFER 255 /* the record's buffer is shorter than JENNYDUSK_SPAN, or the certificate's than
                                     * JENNYDUSK_CERTIFICATE_SPAN */
 
@@ -100,6 +104,34 @@ extern "C" {
  * 9 or 255, and 256 times the line that was refused. A load sets the words of the gates that no line names to 0. */
 uint64_t jennydusk_load(const uint8_t *text, size_t text_length, uint32_t *words, size_t words_length, uint8_t *labels,
                         size_t labels_length, uint64_t *record, size_t record_length);
+
+/* Loads an image from Intel HEX: an M text, which is the first line of an image and nothing else, a HEX text, and a
+ * label. The record is that of the M text alone: no gates, their words 0, and every register value 0, label 240. A word
+ * below the size with a byte in the HEX text gets the label, which may be any, and its four bytes, the lowest first;
+ * those that aren't given are 0. The others get value 0 and label 240.
+ *
+ * A line of the HEX text is one record: a colon, pairs of hexadecimal digits of either case, and LF or CR LF. The pairs
+ * are a length, an address of two bytes, the high one first, a type, so many bytes as the length says, and a check byte;
+ * the sum of them all is 0 modulo 256. A record of type 0 gives its bytes to the places from its address on, place
+ * 4 * k + j to byte j of word k, j from 0 to 3. They may come in any order. One record of type 1 and length 0 is the
+ * last; its address isn't read. The HEX text has no greatest length.
+ *
+ * Answers a number alone, the first that holds of these, and writes to *line the line that it is about, or 0 with
+ * JENNYDUSK_DONE:
+ *
+ *   JENNYDUSK_SHORT_BUFFER; *line is left
+ *   JENNYDUSK_TEXT_LENGTH, of the M text, with line 0; an empty HEX text is JENNYDUSK_HEX_RECORD
+ *   JENNYDUSK_MALFORMED, JENNYDUSK_RANGE, JENNYDUSK_PAIR or JENNYDUSK_SHORT_MEMORY of the M text's line, with line 1
+ *   JENNYDUSK_ORDER with line 2: the M text has anything behind its line, of whatever form
+ *   of each line of the HEX text in turn, JENNYDUSK_HEX_RECORD, then JENNYDUSK_HEX_BYTE, with that line, counted from 1
+ *   JENNYDUSK_HEX_RECORD with the line behind the last, where the record of type 1 is missing
+ *   JENNYDUSK_DONE
+ *
+ * Anything behind the record of type 1 is JENNYDUSK_HEX_RECORD at the line behind it. A record without bytes is taken at
+ * any address. Addresses don't go round: behind 65535 comes 65536, which is outside every memory. */
+uint64_t jennydusk_load_hex(const uint8_t *text, size_t text_length, const uint8_t *hex, size_t hex_length,
+                            uint8_t label, uint32_t *words, size_t words_length, uint8_t *labels,
+                            size_t labels_length, uint64_t *record, size_t record_length, uint64_t *line);
 
 /* Does one step. Answers 0, 6, 7 or 255. An ended record steps to itself.
  *

@@ -11,16 +11,19 @@ use Rattle.causes.specs.Causes.{numberOf}
 use Rattle.model.specs.Record.{Bank, Machine}
 use Rattle.model.specs.Answer as model
 use Rattle.model.specs.Load as loading
+use Rattle.model.specs.HexLoad.{loadHex}
 use Rattle.model.specs.Listing as listing
 use Rattle.model.specs.Certificate as certificate
 use Rattle.model.specs.View as viewing
 use Rattle.model.proofs.Truth.{clash}
 use Rattle.machine.specs.declared.Answer as struct
 use Rattle.machine.specs.Answered.{recordOf, answered}
-use Rattle.loader.specs.declared.Loaded.{Loaded}
+use Rattle.header.specs.declared.Loaded.{Loaded}
 use Rattle.printer.specs.declared.Printed.{Printed}
-use Rattle.loader.specs.Load as load
+use Rattle.header.specs.Loading as load
 use Rattle.printer.specs.Printing as print
+use Rattle.hexloader.specs.declared.Loaded as hexloader
+use Rattle.hexloader.specs.Loading.{loadingOf}
 use Rattle.certify.specs.declared.Certified.{Certified}
 use Rattle.certify.specs.Certified.{certificateOf, certifyingOf}
 use Rattle.view.specs.declared.Viewed.{Viewed}
@@ -29,7 +32,7 @@ use Rattle.decoder.specs.declared.Reading.{Reading}
 use Rattle.decoder.specs.declared.Found.the-variants as found
 use Rattle.decoder.specs.Held.{Holding, holds, nothing}
 use Rattle.decoder.specs.Reading.{Read, given, isFound, readOf}
-use Rattle.jennydusk.specs.Calls.{shortBuffer, noRecord, isShort, unlessShort, left, untouched, kept, keptRecord, afterAnswer, called, counted, afterLoading, certificateSpan, holdingCertificate, afterCertifying, shown, afterPrinting, unwritten, printed, looked, afterViewing, viewCall}
+use Rattle.jennydusk.specs.Calls.{shortBuffer, noRecord, isShort, unlessShort, left, untouched, kept, keptRecord, afterAnswer, called, counted, afterLoading, afterLoadingHex, certificateSpan, holdingCertificate, afterCertifying, shown, afterPrinting, unwritten, printed, looked, afterViewing, viewCall}
 use Rattle.jennydusk.proofs.Length.{bytes-most}
 
 -- ---- what a call that is lent a record or a certificate tries before everything else
@@ -84,6 +87,14 @@ pub was-loaded :
     → buffer ≡ keptRecord (a .outcome) (recordOf (a .machine)) b → answer ≡ counted number line
     → left answer buffer words labels ≡ afterLoading (loading.load text m) b
 was-loaded text m b a e n l k c = rw (k, c, n, l) (ap (λ (z : loading.Loading). afterLoading z b) e)
+
+-- From HEX.
+pub was-loaded-hex :
+    (text hex : List ℕ) (label : ℕ) (m : Bank) (b : List ℕ) (a : hexloader.Loaded) {number line : ℕ} {buffer words labels : List ℕ}
+    → loadingOf a words labels ≡ loadHex text hex label m → number ≡ numberOf (a .outcome) → line ≡ a .line
+    → buffer ≡ keptRecord (a .outcome) (recordOf (a .machine)) b
+    → record { left = left number buffer words labels; line = line } ≡ afterLoadingHex (loadHex text hex label m) b
+was-loaded-hex text hex label m b a e n l k = rw (k, n, l) (ap (λ (z : loading.Loading). afterLoadingHex z b) e)
 
 -- ---- certify
 

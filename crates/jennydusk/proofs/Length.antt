@@ -11,7 +11,7 @@ use Rattle.model.specs.WellFormed.{wellFormed, lentWhole}
 use Rattle.model.specs.Numbers.{letterR, letterW, registerCount, mostWords}
 use Rattle.model.specs.Listing.{listingFor, Printing, listed, printFor}
 use Rattle.model.specs.Load.{load}
-use Rattle.model.specs.View.{Look, refused, arrived, look, View, viewOf, view, viewReply}
+use Rattle.model.specs.View.{Look, refused, arrived, look, View, viewOf, viewLoad, view, viewReply}
 use Rattle.model.proofs.Truth.{choice}
 use Rattle.model.proofs.Ready.{fit}
 use Rattle.texts.specs.Inner.Sight.{controlSeen, bankSeen}
@@ -51,6 +51,6 @@ view-counts ℓ (arrived s) out l v =
 
 pub view-most : (ℓ k : ℕ) (text : List ℕ) (m : Bank) (out : List ℕ) (a : View) → a ≡ view ℓ k text m out → a .value ≤ 2 ^ 32
     → a .value + a .bytes ≤ 2 ^ 32
-unfolding view
+unfolding view viewLoad
 view-most ℓ k text m out a e v =
     rw e (view-counts ℓ (look k (load text m)) out (omega (arith, view-reply-bound ℓ k text m)) (rw e at v))

@@ -15,6 +15,7 @@ use Rattle.causes.specs.Causes.{numberOf}
 use Rattle.model.specs.Record.{Bank, Machine, lent}
 use Rattle.model.specs.Answer.{Answer, stepAnswer, runAnswer, runToAnswer}
 use Rattle.model.specs.Load.{Loading, load}
+use Rattle.model.specs.HexLoad.{loadHex}
 use Rattle.model.specs.Listing.{Printing, printFor}
 use Rattle.model.specs.Certificate.{Certificate, Certifying, certifying}
 use Rattle.model.specs.View.{View, view}
@@ -114,6 +115,30 @@ afterLoading a b =
 -- jennydusk_load.
 unfoldable pub loadCall : List ℕ → Bank → List ℕ → Left
 loadCall text m b = unlessShort (untouched b m) span b (afterLoading (load text m) b)
+
+-- ---- load from HEX, whose line stands in a lent word: its HEX text may have more lines than fit an answer
+
+-- What is left, and the lent line at exit.
+pub record LeftLine : Type 0 where
+  pub left : Left
+  pub line : ℕ
+
+-- All is left, the line too.
+abbrev pub untouchedLine : List ℕ → Bank → ℕ → ℕ → LeftLine
+untouchedLine b m line answer = record { left = untouched b m answer; line = line }
+
+-- After the answer of load: its number alone, and its line.
+abbrev pub afterLoadingHex : Loading → List ℕ → LeftLine
+afterLoadingHex a b =
+    record {
+      left = afterAnswer (record { outcome = a .outcome; machine = a .machine; memory = a .memory }) b;
+      line = a .line;
+    }
+
+-- jennydusk_load_hex.
+unfoldable pub loadHexCall : List ℕ → List ℕ → ℕ → Bank → List ℕ → ℕ → LeftLine
+loadHexCall text hex label m b line =
+    unlessShort (untouchedLine b m line) span b (afterLoadingHex (loadHex text hex label m) b)
 
 -- ---- certify, which loads and runs a text and writes a certificate
 

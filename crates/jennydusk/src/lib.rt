@@ -1,6 +1,7 @@
 // The machine for programs in other languages: load, step and run over buffers that the caller lends. A record stands in
 // a buffer of 64-bit words, as the crates encoder and decoder have it. Nothing is kept between calls. The module
-// print_calls has listings for them, view_call views, certify_call certificates, label_calls the label rules.
+// load_hex_call has the load from HEX, print_calls listings, view_call views, certify_call certificates, label_calls the
+// label rules.
 use causes::Cause;
 use causes::Outcome;
 use decoder::Found;
@@ -16,6 +17,7 @@ ghost use Rattle.jennydusk.specs.Calls.{isShort, noRecord, left, keptRec
 
 mod certify_call;
 mod label_calls;
+mod load_hex_call;
 mod print_calls;
 mod view_call;
 
@@ -43,7 +45,7 @@ pub(in crate) fn no_record() -> u64
 }
 
 // Writes the record, unless the call with this outcome was refused.
-fn keep(outcome: Outcome, machine: Machine, record: &mut [u64])
+pub(in crate) fn keep(outcome: Outcome, machine: Machine, record: &mut [u64])
     ensures { λ r. ⌜ now («record» .exit) ≡ keptRecord outcome (recordOf machine) (now («record» .entry)) ⌝ }
 {
     if let Outcome::Done = outcome {

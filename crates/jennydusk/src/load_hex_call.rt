@@ -1,0 +1,35 @@
+// Loading from HEX for programs in other languages: an M text of one line with a HEX text and a label. The line of a refusal
+// goes to a word that the caller lends, since a HEX text may have more lines than fit an answer beside its number.
+use crate::RECORD_SPAN;
+use crate::SHORT_BUFFER;
+use crate::is_short;
+use crate::keep;
+use hexloader::load_hex;
+ghost use mathlib.Core.Path.{_≡_};
+ghost use Rattle.model.specs.Record.{lent};
+ghost use Rattle.jennydusk.specs.Calls.{left, loadHexCall};
+
+// Loads an M text with a HEX text, whose words get this label: the record goes to its buffer, and the memory to words and
+// labels.
+#[no_mangle]
+pub extern "C" fn jennydusk_load_hex(
+    text: &[u8],
+    hex: &[u8],
+    label: u8,
+    words: &mut [u32],
+    labels: &mut [u8],
+    record: &mut [u64],
+    line: &mut u64,
+) -> u64
+    ensures { λ r. ⌜ record { left = left r (now («record» .exit)) (now (words .exit)) (now (labels .exit)); line = now (line .exit) } ≡ loadHexCall (now (text .entry)) (now (hex .entry)) label (lent (now (words .entry)) (now (labels .entry))) (now («record» .entry)) (now (line .entry)) ⌝ }
+{
+    if is_short(record, RECORD_SPAN) {
+        return SHORT_BUFFER;
+    }
+    let loaded = load_hex(text, hex, label, words, labels);
+    let outcome = loaded.outcome;
+    let machine = loaded.machine;
+    keep(outcome, machine, record);
+    *line = loaded.line;
+    outcome.number() as u64
+}
