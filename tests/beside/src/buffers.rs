@@ -4,6 +4,7 @@
 use crate::calls::{Calls, Memory, Viewer};
 use crate::certificate;
 use crate::layout::{word_name, SPAN};
+use interpreter::generator::hex::HexImage;
 use interpreter::generator::random::Random;
 use interpreter::machine::MAX_SIZE;
 use interpreter::Label;
@@ -61,7 +62,7 @@ impl<T: Copy + PartialEq + Into<u64>> Buffer<T> {
 }
 
 /// All that step, run and print are lent, and load, certify and view besides
-/// their text.
+/// their texts. The word for a line is there for a load from HEX.
 #[derive(Clone, Debug, PartialEq, Eq)]
 pub struct Lent {
     pub record: Buffer<u64>,
@@ -69,6 +70,7 @@ pub struct Lent {
     pub labels: Buffer<u8>,
     pub output: Buffer<u8>,
     pub certificate: Buffer<u64>,
+    pub line: Buffer<u64>,
 }
 
 impl Lent {
@@ -80,6 +82,7 @@ impl Lent {
             labels: Buffer::around(&[0; MAX_SIZE as usize], 0),
             output: Buffer::around(&[0; 65_536], 0),
             certificate: Buffer::around(&[0; certificate::SPAN], 0),
+            line: Buffer::around(&[0], 0),
         }
     }
 
@@ -92,6 +95,7 @@ impl Lent {
             labels: Buffer::around(labels, random.bits() as u8),
             output: Buffer::around(&[], random.bits() as u8),
             certificate: Buffer::around(&[], 0),
+            line: Buffer::around(&[0], 0),
         }
     }
 
@@ -103,6 +107,7 @@ impl Lent {
             ("labels", self.labels.differs(&other.labels)),
             ("output", self.output.differs(&other.output)),
             ("certificate", self.certificate.differs(&other.certificate)),
+            ("line", self.line.differs(&other.line)),
         ];
         let (buffer, place, one, two) = buffers
             .into_iter()
@@ -117,6 +122,12 @@ impl Lent {
     pub fn load(&mut self, calls: &dyn Calls, text: &[u8]) -> u64 {
         let Lent { record, words, labels, .. } = self;
         calls.load(text, words.get_mut(), labels.get_mut(), record.get_mut())
+    }
+
+    pub fn load_hex(&mut self, calls: &dyn Calls, image: &HexImage) -> u64 {
+        let Lent { record, words, labels, line, .. } = self;
+        let memory = Memory { words: words.get_mut(), labels: labels.get_mut() };
+        calls.load_hex(image, memory, record.get_mut(), &mut line.get_mut()[0])
     }
 
     pub fn step(&mut self, calls: &dyn Calls) -> u64 {

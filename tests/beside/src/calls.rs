@@ -1,11 +1,14 @@
 //! The calls over plain buffers, for the library and the interpreter alike, and
 //! their answers.
 
+use interpreter::generator::hex::HexImage;
 use interpreter::{Label, NOT_FIT, SHORT_MEMORY, SHORT_OUTPUT, TICK_ABOVE_LIMIT};
 
 /// The calls of `include/jennydusk.h`. A slice is a pointer and a length there.
 pub trait Calls {
     fn load(&self, text: &[u8], words: &mut [u32], labels: &mut [u8], record: &mut [u64]) -> u64;
+    fn load_hex(&self, image: &HexImage, memory: Memory, record: &mut [u64], line: &mut u64)
+        -> u64;
     fn step(&self, record: &mut [u64], words: &mut [u32], labels: &mut [u8]) -> u64;
     fn run(&self, record: &mut [u64], words: &mut [u32], labels: &mut [u8]) -> u64;
     fn run_to(&self, record: &mut [u64], words: &mut [u32], labels: &mut [u8], tick: u64) -> u64;
@@ -36,7 +39,7 @@ pub struct Viewer {
     pub tick: u64,
 }
 
-/// The words and labels that a view is lent.
+/// The words and labels that a view or a load from HEX is lent.
 pub struct Memory<'a> {
     pub words: &'a mut [u32],
     pub labels: &'a mut [u8],

@@ -1,10 +1,10 @@
 //! The library beside the interpreter.
 //!
 //! The library is called through its C functions, the interpreter through the
-//! same buffers. Five programs compare them: `listings` on generated images,
-//! `calls` on records and memory that no load gives, `views` at the ticks of
-//! generated images, `pairs` on pairs of machines that differ in their secrets,
-//! `certificates` on pairs of which one is certified.
+//! same buffers. Six programs compare them: `listings` on generated images, `hex`
+//! on images from HEX, `calls` on records and memory that no load gives, `views`
+//! at the ticks of generated images, `pairs` on pairs of machines that differ in
+//! their secrets, `certificates` on pairs of which one is certified.
 
 #![deny(unsafe_code)]
 
@@ -16,6 +16,7 @@ pub mod certificate;
 pub mod chains;
 pub mod edges;
 pub mod fired;
+pub mod hex_loads;
 pub mod layout;
 pub mod library;
 pub mod loads;
@@ -24,6 +25,7 @@ pub mod no_records;
 pub mod other;
 pub mod pairs;
 pub mod parting;
+pub mod program;
 pub mod random_records;
 pub mod tally;
 pub mod trials;

@@ -1,15 +1,17 @@
-//! The library's C functions over a record, and those that certify and view a
-//! text, as `include/jennydusk.h` declares them. This is the only module with
+//! The library's C functions over a record, and those that load, certify and view
+//! an image, as `include/jennydusk.h` declares them. This is the only module with
 //! unsafe code, and the calls are all of it.
 
 #![allow(unsafe_code)]
 
 use crate::calls::{Calls, Memory, Viewer};
+use interpreter::generator::hex::HexImage;
 
 #[rustfmt::skip]
 #[link(name = "jennydusk", kind = "static")]
 unsafe extern "C" {
     fn jennydusk_load(text: *const u8, text_length: usize, words: *mut u32, words_length: usize, labels: *mut u8, labels_length: usize, record: *mut u64, record_length: usize) -> u64;
+    fn jennydusk_load_hex(text: *const u8, text_length: usize, hex: *const u8, hex_length: usize, label: u8, words: *mut u32, words_length: usize, labels: *mut u8, labels_length: usize, record: *mut u64, record_length: usize, line: *mut u64) -> u64;
     fn jennydusk_step(record: *mut u64, record_length: usize, words: *mut u32, words_length: usize, labels: *mut u8, labels_length: usize) -> u64;
     fn jennydusk_run(record: *mut u64, record_length: usize, words: *mut u32, words_length: usize, labels: *mut u8, labels_length: usize) -> u64;
     fn jennydusk_run_to(record: *mut u64, record_length: usize, words: *mut u32, words_length: usize, labels: *mut u8, labels_length: usize, tick: u64) -> u64;
@@ -27,6 +29,11 @@ pub struct Library;
 impl Calls for Library {
     fn load(&self, text: &[u8], words: &mut [u32], labels: &mut [u8], record: &mut [u64]) -> u64 {
         unsafe { jennydusk_load(text.as_ptr(), text.len(), words.as_mut_ptr(), words.len(), labels.as_mut_ptr(), labels.len(), record.as_mut_ptr(), record.len()) }
+    }
+
+    fn load_hex(&self, image: &HexImage, memory: Memory, record: &mut [u64], line: &mut u64) -> u64 {
+        let (HexImage { text, hex, label }, Memory { words, labels }) = (image, memory);
+        unsafe { jennydusk_load_hex(text.as_ptr(), text.len(), hex.as_ptr(), hex.len(), label.0, words.as_mut_ptr(), words.len(), labels.as_mut_ptr(), labels.len(), record.as_mut_ptr(), record.len(), line) }
     }
 
     fn step(&self, record: &mut [u64], words: &mut [u32], labels: &mut [u8]) -> u64 {

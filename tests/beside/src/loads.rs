@@ -1,6 +1,6 @@
 //! Trials of load and certify: good and damaged texts into memory and record or
 //! certificate buffers of every length, and many files one after the other into
-//! the same buffers.
+//! the same buffers. What is lent to a load from HEX is chosen here too.
 
 use crate::bases::LONGEST;
 use crate::buffers::Lent;
@@ -14,24 +14,41 @@ use interpreter::generator::census::Census;
 use interpreter::generator::compose::compose;
 use interpreter::generator::damage::{damage, PLANS};
 use interpreter::generator::random::Random;
+use interpreter::hex::{BAD_BYTE, BAD_RECORD};
 use interpreter::Label;
 use std::ops::RangeInclusive;
 
-/// A call that loads a text and has a buffer to write into: load its record's,
+/// A call that loads an image and has a buffer to write into: load its record's,
 /// certify its certificate's.
 #[derive(Clone, Copy)]
 pub struct Loading {
     call: &'static str,
     buffer: &'static str,
     span: usize,
+    /// The refusals that come before 6, and those that come after it.
+    early: &'static [u64],
+    late: &'static [u64],
 }
 
-pub const LOAD: Loading = Loading { call: "load", buffer: "record", span: SPAN };
-pub const CERTIFY: Loading =
-    Loading { call: "certify", buffer: "certificate", span: certificate::SPAN };
+/// Those of a text's length and first line.
+const OF_FIRST_LINE: &[u64] = &[1, 2, 3, 5];
 
-/// "9, an R line for register 0"
-const ZERO_REGISTER_SET: u64 = 9;
+/// Those of the lines behind it, 9 for an R line for register 0.
+const OF_LATER_LINES: &[u64] = &[2, 3, 4, 9];
+
+/// That of an M text's second line, and those of the records of HEX.
+const OF_RECORDS: &[u64] = &[4, BAD_RECORD as u64, BAD_BYTE as u64];
+
+pub const LOAD: Loading = Loading {
+    call: "load",
+    buffer: "record",
+    span: SPAN,
+    early: OF_FIRST_LINE,
+    late: OF_LATER_LINES,
+};
+pub const CERTIFY: Loading =
+    Loading { call: "certify", buffer: "certificate", span: certificate::SPAN, ..LOAD };
+pub const LOAD_HEX: Loading = Loading { call: "load from HEX", late: OF_RECORDS, ..LOAD };
 
 /// Every so many texts are good ones. The plans take turns among all the turns,
 /// so that their number must not be a multiple of it, or some never come up.
@@ -42,21 +59,6 @@ const _: () = assert!(!PLANS.len().is_multiple_of(GOOD_EVERY));
 /// many are tried for one to certify that does.
 const RELEASING_CHANCE: u32 = 10;
 const RELEASING_TRIES: u32 = 12;
-
-/// The orders between two refusals that such a call can show and the program
-/// can't, for it always lends enough.
-const ORDERS: [&str; 10] = [
-    "1 before 6",
-    "2 before 6",
-    "3 before 6",
-    "5 before 6",
-    "6 before 2",
-    "6 before 3",
-    "6 before 4",
-    "6 before 9",
-    "255 before 6",
-    "255 before the text",
-];
 
 impl Loading {
     /// A kind of trial, with the call's name.
@@ -75,40 +77,70 @@ impl Loading {
         ]
     }
 
-    /// All that must come up.
+    /// All that must come up. The orders are those between two refusals that such a
+    /// call can show and the program can't, for it always lends enough.
     pub fn expected(self) -> Vec<String> {
-        let mut names: Vec<String> = ORDERS.map(|order| self.kind(order)).to_vec();
-        names.extend(LENDINGS.iter().map(|lending| self.kind(lending.name)));
-        names.extend(self.lengths().iter().map(|(name, _)| self.kind(name)));
-        let numbers = (0..7).chain([ZERO_REGISTER_SET, SHORT_BUFFER]);
-        names.extend(numbers.map(|number| self.kind(&format!("answer {number}"))));
-        names
+        let mut names: Vec<String> =
+            ["255 before 6", "255 before the text"].map(str::to_string).to_vec();
+        names.extend(self.early.iter().map(|number| format!("{number} before 6")));
+        names.extend(self.late.iter().map(|number| format!("6 before {number}")));
+        names.extend(LENDINGS.iter().map(|lending| lending.name.to_string()));
+        names.extend(self.lengths().map(|(name, _)| name));
+        let numbers =
+            self.early.iter().chain(self.late).copied().chain([0, MEMORY_SHORT, SHORT_BUFFER]);
+        names.extend(numbers.map(|number| format!("answer {number}")));
+        names.iter().map(|name| self.kind(name)).collect()
     }
 
-    /// Buffers of some lengths for a text, and the answer that is due. A short
-    /// buffer comes before every refusal of the text.
-    fn lend(self, trials: &mut Trials, random: &mut Random, text: &Text) -> (Lent, u64) {
-        let size = size_of(&text.bytes);
+    /// Buffers of some lengths for an image of this size, and the number and the line
+    /// that are due. A short buffer comes before every refusal of the image.
+    pub fn lend(
+        self,
+        trials: &mut Trials,
+        random: &mut Random,
+        size: usize,
+        refused: Refused,
+    ) -> (Lent, (u64, u64)) {
         let (length_name, length) = &self.lengths()[random.weighted(&[12, 4, 2, 1])];
         let lending = if random.chance(40) { LENDINGS[0] } else { random.pick(&LENDINGS) };
         let mut lent = dirty(random, *length, size);
         lending.apply(random, &mut lent, size);
         let is_short = *length < self.span;
-        let (due, line) = if is_short { (SHORT_BUFFER, 0) } else { text.refusal_in(lending) };
+        let (due, line) = if is_short { (SHORT_BUFFER, 0) } else { refused.within(lending) };
         let tally = &mut trials.tally;
         tally.count(&self.kind(length_name));
         tally.count(&self.kind(lending.name));
         tally.count(&self.kind(&format!("answer {due}")));
         let short_buffer = due == SHORT_BUFFER;
         tally.count_if(short_buffer && lending.is_short(), &self.kind("255 before 6"));
-        tally.count_if(short_buffer && text.number > 0, &self.kind("255 before the text"));
-        if due != text.number && due == 6 && text.number > 0 {
-            tally.count(&self.kind(&format!("6 before {}", text.number)));
+        tally.count_if(short_buffer && refused.number > 0, &self.kind("255 before the text"));
+        if due != refused.number && due == MEMORY_SHORT && refused.number > 0 {
+            tally.count(&self.kind(&format!("6 before {}", refused.number)));
         }
-        if due == text.number && lending.is_short() {
+        if due == refused.number && lending.is_short() {
             tally.count(&self.kind(&format!("{due} before 6")));
         }
-        (lent, answer(due, line))
+        (lent, (due, line))
+    }
+}
+
+/// The refusal, number and line, that an image gets in memory of enough words, 0
+/// and 0 where it is accepted; and whether it comes before 6.
+#[derive(Clone, Copy)]
+pub struct Refused {
+    pub number: u64,
+    pub line: u64,
+    pub is_early: bool,
+}
+
+impl Refused {
+    /// The refusal that is due in memory that is lent so. 1, and 2, 3 and 5 of the
+    /// first line come before 6, which comes before those of later lines.
+    pub fn within(self, lending: Lending) -> (u64, u64) {
+        if lending.is_short() && !self.is_early {
+            return (MEMORY_SHORT, 1);
+        }
+        (self.number, self.line)
     }
 }
 
@@ -125,17 +157,12 @@ impl Text {
     pub fn damaged(random: &mut Random, turn: usize) -> Text {
         let damaged = damage(random, PLANS[turn % PLANS.len()]);
         let refusal = damaged.refusal;
-        Text { bytes: damaged.text, number: refusal.number.into(), line: refusal.line.into() }
+        Text { bytes: damaged.text, number: refusal.number.into(), line: refusal.line }
     }
 
-    /// The refusal that is due in memory that is lent so. 1, and 2, 3 and 5 of the
-    /// first line come before 6, which comes before those of later lines.
-    pub fn refusal_in(&self, lending: Lending) -> (u64, u64) {
-        let is_early = self.number > 0 && self.line <= 1;
-        if lending.is_short() && !is_early {
-            return (MEMORY_SHORT, 1);
-        }
-        (self.number, self.line)
+    pub fn refused(&self) -> Refused {
+        let Text { number, line, .. } = *self;
+        Refused { number, line, is_early: number > 0 && line <= 1 }
     }
 }
 
@@ -202,21 +229,21 @@ pub fn dirty(random: &mut Random, length: usize, size: usize) -> Lent {
 /// One load.
 pub fn try_load(trials: &mut Trials, random: &mut Random, turn: usize) {
     let text = text(random, turn);
-    let (lent, due) = LOAD.lend(trials, random, &text);
+    let (lent, (number, line)) = LOAD.lend(trials, random, size_of(&text.bytes), text.refused());
     let name = format!("load of\n{}", String::from_utf8_lossy(&text.bytes));
     let make = |calls: &dyn Calls, lent: &mut Lent| lent.load(calls, &text.bytes);
-    trials.compare(&name, make, &lent, Due::Answer(due));
+    trials.compare(&name, make, &lent, Due::Answer(answer(number, line)));
 }
 
 /// One certificate, at any label: its cause, where the text is not refused.
 pub fn try_certify(trials: &mut Trials, random: &mut Random, turn: usize) -> Option<u64> {
     let text = text_to_certify(random, turn);
-    let (lent, due) = CERTIFY.lend(trials, random, &text);
+    let (lent, (number, line)) = CERTIFY.lend(trials, random, size_of(&text.bytes), text.refused());
     let level = choose_level(random, &text.bytes);
     let name = format!("certify at {} of\n{}", level.0, String::from_utf8_lossy(&text.bytes));
     let make = |calls: &dyn Calls, lent: &mut Lent| lent.certify(calls, level, &text.bytes);
-    let left = trials.compare(&name, make, &lent, Due::Answer(due));
-    (due == 0).then(|| left.certificate.get()[certificate::at::CAUSE])
+    let left = trials.compare(&name, make, &lent, Due::Answer(answer(number, line)));
+    (number == 0).then(|| left.certificate.get()[certificate::at::CAUSE])
 }
 
 /// One cabinet, many files: each is loaded, stepped, run and printed in the

@@ -4,8 +4,9 @@
 use crate::calls::{answer, Calls, Memory, Viewer, NO_RECORD, SHORT_BUFFER};
 use crate::certificate;
 use crate::layout::{at, read, words_of, SPAN};
+use interpreter::generator::hex::HexImage;
 use interpreter::machine::MAX_GATES;
-use interpreter::{load, print, print_for, view, Label, Machine, NoView};
+use interpreter::{load, load_hex, print, print_for, view, Label, Machine, NoView};
 
 /// The interpreter in Rust.
 pub struct Other;
@@ -36,6 +37,13 @@ fn change(record: &mut [u64], call: impl FnOnce(&mut Machine) -> Result<(), u8>)
     }
 }
 
+/// Writes a loaded record into its buffer. "A load sets the words of the gates that
+/// no line names to 0."
+fn write_loaded(machine: &Machine, record: &mut [u64]) {
+    record[..SPAN].copy_from_slice(&words_of(machine));
+    record[at::gate(machine.gate_count)..at::gate(MAX_GATES)].fill(0);
+}
+
 /// Lists the record of a buffer: 0 and 256 times the length, or the refusal.
 fn list(record: &[u64], call: impl FnOnce(&Machine) -> Result<usize, u8>) -> u64 {
     let machine = match record_in(record) {
@@ -50,19 +58,42 @@ fn list(record: &[u64], call: impl FnOnce(&Machine) -> Result<usize, u8>) -> u64
 
 impl Calls for Other {
     /// "Answers a number, 0 to 6, 9 or 255, and 256 times the line that was
-    /// refused. A load sets the words of the gates that no line names to 0."
+    /// refused."
     fn load(&self, text: &[u8], words: &mut [u32], labels: &mut [u8], record: &mut [u64]) -> u64 {
         if record.len() < SPAN {
             return SHORT_BUFFER;
         }
         match load(text, words, labels) {
             Ok(machine) => {
-                record[..SPAN].copy_from_slice(&words_of(&machine));
-                record[at::gate(machine.gate_count)..at::gate(MAX_GATES)].fill(0);
+                write_loaded(&machine, record);
                 0
             }
-            Err(refusal) => answer(refusal.number.into(), refusal.line.into()),
+            Err(refusal) => answer(refusal.number.into(), refusal.line),
         }
+    }
+
+    /// Answers a number alone, 0 to 6, 11, 12 or 255. The line that was refused
+    /// goes to a word of its own, 0 where none was; at 255 that word is left.
+    fn load_hex(
+        &self,
+        image: &HexImage,
+        memory: Memory,
+        record: &mut [u64],
+        line: &mut u64,
+    ) -> u64 {
+        if record.len() < SPAN {
+            return SHORT_BUFFER;
+        }
+        let HexImage { text, hex, label } = image;
+        let (number, refused) = match load_hex(text, hex, *label, memory.words, memory.labels) {
+            Ok(machine) => {
+                write_loaded(&machine, record);
+                (0, 0)
+            }
+            Err(refusal) => (refusal.number, refusal.line),
+        };
+        *line = refused;
+        number.into()
     }
 
     /// "Does one step. Answers 0, 6, 7 or 255. An ended record steps to itself."
@@ -125,7 +156,7 @@ impl Calls for Other {
         }
         let mut machine = match load(text, words, labels) {
             Ok(machine) => machine,
-            Err(refusal) => return answer(refusal.number.into(), refusal.line.into()),
+            Err(refusal) => return answer(refusal.number.into(), refusal.line),
         };
         let found = machine.certify(Label(label), words, labels).expect("a loaded record is fit");
         certificate[..certificate::SPAN].copy_from_slice(&certificate::words_of(found));

@@ -255,7 +255,7 @@ pub fn try_damaged(trials: &mut Trials, random: &mut Random, turn: usize) {
     let is_late = random.chance(60);
     let tick = if is_late { random.pick(&[1 << 32, u64::MAX]) } else { 0 };
     let viewer = Viewer { label: Label(random.bits() as u8), tick };
-    let (number, line) = text.refusal_in(lending);
+    let (number, line) = text.refused().within(lending);
     let has_output = !before.output.get().is_empty();
     trials.tally.count_if(!has_output, "view, a damaged text before 8");
     trials.tally.count_if(is_late, "view, a damaged text before 10");

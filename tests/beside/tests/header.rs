@@ -5,6 +5,7 @@ use beside::calls::{NO_RECORD, SHORT_BUFFER, TICK_LATE};
 use beside::certificate;
 use beside::layout::{at, SPAN};
 use interpreter::certificate::cause;
+use interpreter::hex::{BAD_BYTE, BAD_RECORD};
 
 const HEADER: &str = include_str!("../../../include/jennydusk.h");
 
@@ -82,6 +83,8 @@ fn the_papers_numbers() {
     assert_eq!(number("NO_RECORD") as u64, NO_RECORD);
     assert_eq!(["ZERO_REGISTER", "TICK"].map(number), [9, 10]);
     assert_eq!(number("TICK") as u64, TICK_LATE);
+    assert_eq!(["HEX_RECORD", "HEX_BYTE"].map(number), [11, 12]);
+    assert_eq!(["HEX_RECORD", "HEX_BYTE"].map(number), [BAD_RECORD, BAD_BYTE].map(usize::from));
 }
 
 /// The paper's table has no such refusal, and so no such number.

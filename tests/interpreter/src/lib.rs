@@ -5,8 +5,8 @@
 //! Names are those of the field; the paper's own words stand in the comments.
 //! What is quoted of register 0 stands in a later request of the owner's: "It
 //! now always reads 0 with the lowest label". So does what is quoted of a view:
-//! "run to that tick and list what the label sees", and of ops 23 and 24:
-//! "Division for mixing ratios".
+//! "run to that tick and list what the label sees", of ops 23 and 24: "Division
+//! for mixing ratios", and of HEX: "Images from Intel HEX".
 
 #![forbid(unsafe_code)]
 
@@ -14,6 +14,7 @@ pub mod certificate;
 pub mod draft;
 pub mod fire;
 pub mod generator;
+pub mod hex;
 pub mod instruction;
 pub mod label;
 pub mod load;
@@ -25,7 +26,8 @@ pub mod step;
 pub mod view;
 
 pub use certificate::Certificate;
-pub use fire::{fire, fire_for};
+pub use fire::{fire, fire_for, fire_hex};
+pub use hex::load_hex;
 pub use label::{Label, Pair};
 pub use load::{load, Refusal};
 pub use machine::{is_fit, Call, Gate, Machine, Register, Return};

@@ -13,15 +13,16 @@ pub const MAX_TEXT: usize = 65_535;
 const BAD_TEXT: u8 = 1;
 const BAD_LINE: u8 = 2;
 const BAD_RANGE: u8 = 3;
-const BAD_ORDER: u8 = 4;
+pub(crate) const BAD_ORDER: u8 = 4;
 const BAD_PAIR: u8 = 5;
 const BAD_REGISTER: u8 = 9;
 
-/// The refusal table's second and third columns for a load: "number, line".
+/// The refusal table's second and third columns for a load: "number, line". A
+/// line's number is as wide as a text's length.
 #[derive(Clone, Copy, Debug, PartialEq, Eq)]
 pub struct Refusal {
     pub number: u8,
-    pub line: u32,
+    pub line: u64,
 }
 
 /// The four letters that a line may begin with, in the order in which the kinds
@@ -41,10 +42,10 @@ struct Line {
 }
 
 /// What has been read so far, away from the lent memory.
-struct Image {
+pub(crate) struct Image {
     machine: Machine,
-    words: Vec<u32>,
-    labels: Vec<u8>,
+    pub(crate) words: Vec<u32>,
+    pub(crate) labels: Vec<u8>,
     kind: Kind,
     last_number: Option<u64>,
 }
@@ -53,15 +54,7 @@ struct Image {
 /// line by line, a line is tried for 2, 4 (kind), 3, 4 (rising), then 5; 6
 /// follows line 1, before line 2." 9 is "tried after the rising test".
 pub fn load(text: &[u8], words: &mut [u32], labels: &mut [u8]) -> Result<Machine, Refusal> {
-    if text.is_empty() || text.len() > MAX_TEXT {
-        return Err(Refusal { number: BAD_TEXT, line: 0 });
-    }
-    let refuse = |line: u32| move |number: u8| Refusal { number, line };
-    let (first, mut cursor) = read_line(text).map_err(refuse(1))?;
-    let mut image = start(&first).map_err(refuse(1))?;
-    if image.machine.memory_is_short(words, labels) {
-        return Err(Refusal { number: SHORT_MEMORY, line: 1 });
-    }
+    let (mut image, mut cursor) = load_first(text, words, labels)?;
     let mut number = 1;
     while cursor < text.len() {
         number += 1;
@@ -69,9 +62,30 @@ pub fn load(text: &[u8], words: &mut [u32], labels: &mut [u8]) -> Result<Machine
         image.add(&line).map_err(refuse(number))?;
         cursor += length;
     }
-    words[..image.words.len()].copy_from_slice(&image.words);
-    labels[..image.labels.len()].copy_from_slice(&image.labels);
-    Ok(image.machine)
+    Ok(image.store(words, labels))
+}
+
+/// The refusal of this line, of whatever number.
+pub(crate) fn refuse(line: u64) -> impl Fn(u8) -> Refusal {
+    move |number| Refusal { number, line }
+}
+
+/// What an image is once its text's length and first line are accepted, for the
+/// memory that is lent: all but its later lines, and where these begin.
+pub(crate) fn load_first(
+    text: &[u8],
+    words: &[u32],
+    labels: &[u8],
+) -> Result<(Image, usize), Refusal> {
+    if text.is_empty() || text.len() > MAX_TEXT {
+        return Err(Refusal { number: BAD_TEXT, line: 0 });
+    }
+    let (first, length) = read_line(text).map_err(refuse(1))?;
+    let image = start(&first).map_err(refuse(1))?;
+    if image.machine.memory_is_short(words, labels) {
+        return Err(Refusal { number: SHORT_MEMORY, line: 1 });
+    }
+    Ok((image, length))
 }
 
 /// "Each line is read as the part of the text that begins where the last line
@@ -120,6 +134,11 @@ pub(crate) fn read_number(field: &[u8]) -> Option<u64> {
     field.iter().try_fold(0, |number, &digit| {
         digit.is_ascii_digit().then(|| number * 10 + u64::from(digit - b'0'))
     })
+}
+
+/// A label as an argument, written as in a text: "labels below 256".
+pub fn read_label(word: &str) -> Option<Label> {
+    read_number(word.as_bytes()).and_then(|number| to_label(number).ok())
 }
 
 /// "Places and values are below 2^32"
@@ -173,6 +192,14 @@ fn start(line: &Line) -> Result<Image, u8> {
 }
 
 impl Image {
+    /// Writes an accepted image into the lent memory, which is long enough, and
+    /// gives its record.
+    pub(crate) fn store(self, words: &mut [u32], labels: &mut [u8]) -> Machine {
+        words[..self.words.len()].copy_from_slice(&self.words);
+        labels[..self.labels.len()].copy_from_slice(&self.labels);
+        self.machine
+    }
+
     /// A later line: "kind out of order, second M, number not rising" are 4,
     /// the kind before the ranges and the rising after them.
     fn add(&mut self, line: &Line) -> Result<(), u8> {

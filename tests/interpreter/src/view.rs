@@ -6,7 +6,7 @@
 //! on the state at a tick.
 
 use crate::label::Label;
-use crate::load::{load, read_number, Refusal};
+use crate::load::{load, read_label, read_number, Refusal};
 use crate::machine::{end, Machine};
 use crate::print::{call_line, end_line, location_line, write};
 use crate::TICK_ABOVE_LIMIT;
@@ -21,7 +21,7 @@ pub struct NoView {
 
 impl From<Refusal> for NoView {
     fn from(Refusal { number, line }: Refusal) -> NoView {
-        NoView { number, value: line.into() }
+        NoView { number, value: line }
     }
 }
 
@@ -125,6 +125,5 @@ fn seen_lines(
 /// A viewer's label and a tick, written as numbers are in a text: "one to ten
 /// digits without leading zeros", and the label below 256.
 pub fn read_arguments(label: &str, tick: &str) -> Option<(Label, u64)> {
-    let label = u8::try_from(read_number(label.as_bytes())?).ok()?;
-    Some((Label(label), read_number(tick.as_bytes())?))
+    Some((read_label(label)?, read_number(tick.as_bytes())?))
 }

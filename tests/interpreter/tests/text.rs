@@ -8,11 +8,11 @@ use interpreter::{load, Label, Refusal};
 const M: &str = "M,8,7,0,240,240,100\n";
 
 /// The refusal of a text that begins with a good first line.
-fn after_m(rest: &str) -> (u8, u32) {
+fn after_m(rest: &str) -> (u8, u64) {
     refusal(&format!("{M}{rest}"))
 }
 
-const ACCEPTED: (u8, u32) = (0, 0);
+const ACCEPTED: (u8, u64) = (0, 0);
 
 #[test]
 fn a_good_text_is_accepted() {
@@ -192,7 +192,7 @@ fn nine_on_an_earlier_line_comes_before_what_is_wrong_later_and_the_other_way_ro
         assert_eq!(after_m(&format!("R,0,240,0\n{rest}")), (9, 2), "{rest}");
     }
     for (rest, number) in &wrong[..4] {
-        let line = 1 + rest.lines().count() as u32;
+        let line = 1 + rest.lines().count() as u64;
         assert_eq!(after_m(&format!("{rest}R,0,240,0\n")), (*number, line), "{rest}");
     }
     assert_eq!(refusal("M,8,7,0,255,240,100\nR,0,240,0\n"), (5, 1));

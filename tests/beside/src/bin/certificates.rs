@@ -1,8 +1,9 @@
 //! `certificates [SEED [COUNT [library|interpreter]]]` certifies one machine of
 //! each of COUNT pairs and compares the other with it up to the first break,
-//! through the library's calls or the interpreter's; and the library's
-//! certificates of COUNT texts with the interpreter's. It prints what was met;
-//! the last line is 'N passed, M failed'.
+//! through the library's calls or the interpreter's; so it does with an eighth of
+//! that many pairs that are loaded from HEX. It compares the library's
+//! certificates of COUNT texts with the interpreter's. It prints what was met; the
+//! last line is 'N passed, M failed'.
 
 #![forbid(unsafe_code)]
 
@@ -13,7 +14,9 @@ use beside::other::Other;
 use beside::pairs::certified::{broken_under, certificate_of, uncovered};
 use beside::pairs::check::{compare, unreached};
 use beside::pairs::divisions;
+use beside::pairs::from_hex::{self, HexPair};
 use beside::pairs::hidden::{came, Came};
+use beside::pairs::image::Image;
 use beside::pairs::make::Pair;
 use beside::pairs::multiplies;
 use beside::pairs::provisos::{both, bounds, Bounds};
@@ -86,11 +89,12 @@ fn main() -> ExitCode {
     let mut trial = Trial { calls, random, trials };
     let count = number(1).unwrap_or(6_000);
     for turn in 0..count {
-        trial.try_pair();
+        trial.try_any();
         if is_library {
             trial.try_text(turn as usize);
         }
     }
+    (0..count / from_hex::EVERY).for_each(|_| trial.try_hex());
     let Trials { tally, passed, failed } = trial.trials;
     print!("{tally}");
     let unmet = tally.unmet();
@@ -101,6 +105,7 @@ fn main() -> ExitCode {
 /// All that must come up: of texts only where the library is tried.
 fn expected(is_library: bool) -> Vec<String> {
     let mut names = EXPECTED.map(str::to_string).to_vec();
+    names.extend(from_hex::EXPECTED.map(str::to_string));
     names.extend(CAME.map(|(_, name)| name.to_string()));
     names.extend(divisions::expected().iter().map(|name| certified(name)));
     names.extend(multiplies::expected().iter().map(|name| certified(name)));
@@ -162,11 +167,23 @@ impl Trial<'_> {
         }
     }
 
-    fn try_pair(&mut self) {
+    fn try_any(&mut self) {
         let mut pair = choose(&mut self.random);
         let is_barred = self.random.chance(25) && bar_attempt(&mut pair);
         self.trials.tally.count_if(is_barred, "pairs of which the limit bars an attempt");
-        match self.check(&pair) {
+        let images = pair.texts();
+        self.try_pair(pair, images);
+    }
+
+    /// A pair loaded from HEX, certified as the texts of the same images.
+    fn try_hex(&mut self) {
+        let made = HexPair::make(&mut self.random);
+        made.kinds().iter().for_each(|kind| self.trials.tally.count(kind));
+        self.try_pair(made.pair, made.images);
+    }
+
+    fn try_pair(&mut self, pair: Pair, images: [Image; 2]) {
+        match self.check(&pair, images) {
             Ok(()) => self.trials.passed += 1,
             Err(what) => {
                 self.trials.failed += 1;
@@ -199,13 +216,12 @@ impl Trial<'_> {
 
     /// What a certificate promises of one pair: below the tick of the break both
     /// meet the provisos, and they are alike where both have come.
-    fn check(&mut self, pair: &Pair) -> Result<(), String> {
+    fn check(&mut self, pair: &Pair, images: [Image; 2]) -> Result<(), String> {
         let certificate = self.certificate(pair)?;
-        let Pair { level, one, other } = pair;
-        let size = one.words.len();
+        let (level, size) = (&pair.level, pair.one.words.len());
         let (calls, random, tally) = (self.calls, &mut self.random, &mut self.trials.tally);
-        let one = trace(calls, random, tally, &one.text(), size)?;
-        let other = trace(calls, random, tally, &other.text(), size)?;
+        let one = trace(calls, random, tally, &images[0], size)?;
+        let other = trace(calls, random, tally, &images[1], size)?;
         let bounds = [bounds(*level, &one), bounds(*level, &other)];
         if let Some(tick) = broken_under(certificate, both(bounds[0], bounds[1])) {
             return Err(format!("{certificate:?}, and a proviso broken at tick {tick}"));

@@ -6,15 +6,12 @@
 #![forbid(unsafe_code)]
 
 use beside::parting::first_parting;
+use beside::program::run;
 use beside::verdict::close;
 use interpreter::fire;
 use interpreter::generator::Generator;
-use std::io::{self, Write};
-use std::process::{Command, ExitCode, Stdio};
-use std::{env, thread};
-
-/// A run of the greatest limit takes a fraction of a second.
-const SECONDS: &str = "20";
+use std::env;
+use std::process::ExitCode;
 
 /// Differences are shown up to this number.
 const SHOWN: u64 = 3;
@@ -43,7 +40,7 @@ fn main() -> ExitCode {
 /// Whether both give one listing; what differs is shown if wanted.
 fn is_same(program: &str, text: &[u8], show: bool) -> bool {
     let theirs = fire(text);
-    let ours = run(program, text).unwrap_or_else(|error| format!("{error}\n").into_bytes());
+    let ours = run(program, &[], text).unwrap_or_else(|error| format!("{error}\n").into_bytes());
     if ours != theirs && show {
         println!("two listings of\n{}", String::from_utf8_lossy(text));
         println!("by {program}\n{}", String::from_utf8_lossy(&ours));
@@ -51,18 +48,4 @@ fn is_same(program: &str, text: &[u8], show: bool) -> bool {
         println!("{}", first_parting(text));
     }
     ours == theirs
-}
-
-/// What the program prints for a text.
-fn run(program: &str, text: &[u8]) -> io::Result<Vec<u8>> {
-    let mut command = Command::new("timeout");
-    command.args([SECONDS, program]).stdin(Stdio::piped()).stdout(Stdio::piped());
-    let mut child = command.spawn()?;
-    let stdin = child.stdin.take();
-    // The program may stop reading a text that is too long, and it may print
-    // before it has read all: so the text is written from aside.
-    thread::scope(|scope| {
-        scope.spawn(move || stdin.map(|mut pipe| pipe.write_all(text)));
-        child.wait_with_output().map(|output| output.stdout)
-    })
 }

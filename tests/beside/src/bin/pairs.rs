@@ -1,6 +1,7 @@
 //! `pairs [SEED [COUNT [library|interpreter]]]` tries noninterference on COUNT
-//! pairs of machines, through the library's calls or the interpreter's. It
-//! prints what was met; the last line is 'N passed, M failed'.
+//! pairs of machines, and on an eighth of that many that are loaded from HEX,
+//! through the library's calls or the interpreter's. It prints what was met; the
+//! last line is 'N passed, M failed'.
 
 #![forbid(unsafe_code)]
 
@@ -9,7 +10,9 @@ use beside::library::Library;
 use beside::other::Other;
 use beside::pairs::check::{compare, unreached};
 use beside::pairs::divisions;
+use beside::pairs::from_hex::{self, HexPair};
 use beside::pairs::hidden::{came, came_over_gate, Came};
+use beside::pairs::image::Image;
 use beside::pairs::make::Pair;
 use beside::pairs::multiplies;
 use beside::pairs::provisos::{both, bounds, first_broken, Bounds, NAMES};
@@ -66,6 +69,7 @@ fn main() -> ExitCode {
     };
     let mut expected = EXPECTED.map(str::to_string).to_vec();
     expected.extend(views::EXPECTED.map(str::to_string));
+    expected.extend(from_hex::EXPECTED.map(str::to_string));
     expected.extend(divisions::expected());
     expected.extend(multiplies::expected());
     expected.extend(CAME.map(|(_, name)| name.to_string()));
@@ -75,9 +79,9 @@ fn main() -> ExitCode {
     let random = Random::new(number(0).unwrap_or(1));
     let tally = Tally::expecting(expected);
     let mut trial = Trial { calls, random, tally, passed: 0, failed: 0 };
-    for _ in 0..number(1).unwrap_or(20_000) {
-        trial.try_pair();
-    }
+    let count = number(1).unwrap_or(20_000);
+    (0..count).for_each(|_| trial.try_any());
+    (0..count / from_hex::EVERY).for_each(|_| trial.try_hex());
     trial.finish()
 }
 
@@ -94,9 +98,20 @@ fn is_listed_apart(proviso: &str) -> String {
 }
 
 impl Trial<'_> {
-    fn try_pair(&mut self) {
+    fn try_any(&mut self) {
         let pair = Pair::make(&mut self.random);
-        match self.check(&pair) {
+        let images = pair.texts();
+        self.try_pair(pair, images);
+    }
+
+    fn try_hex(&mut self) {
+        let made = HexPair::make(&mut self.random);
+        made.kinds().iter().for_each(|kind| self.tally.count(kind));
+        self.try_pair(made.pair, made.images);
+    }
+
+    fn try_pair(&mut self, pair: Pair, images: [Image; 2]) {
+        match self.check(&pair, images) {
             Ok(()) => self.passed += 1,
             Err(what) => {
                 self.failed += 1;
@@ -110,12 +125,12 @@ impl Trial<'_> {
     }
 
     /// The claim for one pair, and what is listed of it.
-    fn check(&mut self, pair: &Pair) -> Result<(), String> {
+    fn check(&mut self, pair: &Pair, images: [Image; 2]) -> Result<(), String> {
         let level = pair.level;
         let size = pair.one.words.len();
         let (calls, random, tally) = (self.calls, &mut self.random, &mut self.tally);
-        let one = trace(calls, random, tally, &pair.one.text(), size)?;
-        let other = trace(calls, random, tally, &pair.other.text(), size)?;
+        let one = trace(calls, random, tally, &images[0], size)?;
+        let other = trace(calls, random, tally, &images[1], size)?;
         if !are_alike(level, &one.states[0], &other.states[0]) {
             return Err("they are not loaded alike".to_string());
         }

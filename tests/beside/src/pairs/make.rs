@@ -1,6 +1,7 @@
 //! Making a pair: an image, a label, and a second image that differs from the
 //! first only in what that label doesn't see.
 
+use super::image::Image;
 use super::seen::is_within;
 use interpreter::draft::Draft;
 use interpreter::generator::census::Census;
@@ -13,7 +14,7 @@ use interpreter::machine::{end, ZERO_REGISTER};
 use interpreter::{Label, Machine, Register};
 
 /// The second machine may loop where the first one halts; no run is longer.
-const LONGEST: u64 = 400;
+pub(super) const LONGEST: u64 = 400;
 
 /// So many images are tried for one whose run shows what is wanted.
 const TRIES: u32 = 12;
@@ -39,6 +40,11 @@ impl Pair {
             change_control(random, level, &mut other);
         }
         Pair { level, one, other }
+    }
+
+    /// What its machines are loaded from where nothing else is said.
+    pub fn texts(&self) -> [Image; 2] {
+        [&self.one, &self.other].map(|draft| Image::Text(draft.text()))
     }
 }
 
@@ -139,7 +145,7 @@ fn hide_factors(random: &mut Random, draft: &mut Draft) {
 
 /// Changes what is hidden: the value, at times the label, to another hidden one.
 /// Register 0, whose label flows to every other, is never hidden.
-fn change(random: &mut Random, level: Label, location: &mut Register) {
+pub(super) fn change(random: &mut Random, level: Label, location: &mut Register) {
     if is_within(location.label, level) || random.chance(30) {
         return;
     }
@@ -165,7 +171,7 @@ fn any_op(random: &mut Random) -> u32 {
 }
 
 /// Where p is hidden, so are the place and the pair.
-fn change_control(random: &mut Random, level: Label, draft: &mut Draft) {
+pub(super) fn change_control(random: &mut Random, level: Label, draft: &mut Draft) {
     draft.pc = random.below(draft.words.len() as u32 + 1);
     let pair = valid_pair(random);
     if !is_within(pair.pc, level) {

@@ -8,7 +8,9 @@
 pub mod certified;
 pub mod check;
 pub mod divisions;
+pub mod from_hex;
 pub mod hidden;
+pub mod image;
 pub mod make;
 pub mod multiplies;
 pub mod operands;

@@ -1,5 +1,6 @@
 //! A sequence of calls on one machine, and the states that its steps leave.
 
+use super::image::Image;
 use super::seen::State;
 use crate::buffers::Lent;
 use crate::calls::Calls;
@@ -45,10 +46,10 @@ pub fn trace(
     calls: &dyn Calls,
     random: &mut Random,
     tally: &mut Tally,
-    text: &[u8],
+    image: &Image,
     size: usize,
 ) -> Result<Trace, String> {
-    let mut sequence = Sequence::start(calls, random, text, size)?;
+    let mut sequence = Sequence::start(calls, random, image, size)?;
     let count = random.pick(&[5, 20, 60, 400]);
     for _ in 0..random.between(0, count) {
         match random.below(100) {
@@ -69,13 +70,13 @@ impl<'a> Sequence<'a> {
     fn start(
         calls: &'a dyn Calls,
         random: &mut Random,
-        text: &[u8],
+        image: &Image,
         size: usize,
     ) -> Result<Sequence<'a>, String> {
         let words: Vec<u32> = (0..size + random.index(9)).map(|_| random.bits()).collect();
         let labels: Vec<u8> = (0..size + random.index(9)).map(|_| random.bits() as u8).collect();
         let mut lent = Lent::of(random, &[0; SPAN], &words, &labels);
-        let answer = lent.load(calls, text);
+        let answer = image.load(calls, &mut lent);
         if answer != 0 {
             return Err(format!("load answers {answer}"));
         }

@@ -163,6 +163,6 @@ fn lengthen(mut text: Vec<u8>, length: usize) -> Vec<u8> {
 /// Joins the fields and lines; the text as a whole may then be changed.
 fn finish(lines: Lines, due: (u8, usize), change: impl Fn(Vec<u8>) -> Vec<u8>) -> Damaged {
     let joined: Vec<String> = lines.lines.iter().map(|fields| fields.join(",")).collect();
-    let refusal = Refusal { number: due.0, line: due.1 as u32 };
+    let refusal = Refusal { number: due.0, line: due.1 as u64 };
     Damaged { text: change(join_lines(&joined)), refusal, names: lines.names }
 }

@@ -1,11 +1,12 @@
 //! The image generator: valid images biased towards what is rare, and damaged
-//! ones for each refusal and each order between two.
+//! ones for each refusal and each order between two; texts, and images from HEX.
 
 pub mod census;
 pub mod compose;
 pub mod damage;
 pub mod division;
 pub mod faults;
+pub mod hex;
 pub mod labels;
 pub mod multiply;
 mod on_zero;

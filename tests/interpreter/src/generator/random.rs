@@ -47,6 +47,13 @@ impl Random {
         choices[self.index(choices.len())]
     }
 
+    /// Puts items into any order, each as likely as the others.
+    pub fn shuffle<T>(&mut self, items: &mut [T]) {
+        for end in (1..items.len()).rev() {
+            items.swap(end, self.index(end + 1));
+        }
+    }
+
     /// An index, each as likely as its weight says.
     pub fn weighted(&mut self, weights: &[u32]) -> usize {
         let total = weights.iter().sum();

@@ -65,7 +65,7 @@ pub fn fire(text: &str) -> String {
 }
 
 /// The refusal of a text, as number and line.
-pub fn refusal(text: &str) -> (u8, u32) {
+pub fn refusal(text: &str) -> (u8, u64) {
     match Loaded::of_text(text) {
         Ok(_) => (0, 0),
         Err(Refusal { number, line }) => (number, line),
