@@ -1,4 +1,4 @@
-# make                    the programs firing, viewing, certifying and kiln, and the library to link, in target/
+# make                    the programs firing, hexfiring, viewing, certifying and kiln, and the library to link, in target/
 # make test               every test; the last line is 'N passed, 0 failed'
 # make install PREFIX=DIR puts programs, header, library, man pages and examples in place; DESTDIR is put before
 PREFIX = /usr/local
@@ -11,13 +11,13 @@ RT = rt
 crates := crates.txt $(shell find crates -name '*.rt' -o -name '*.antt')
 kiln := VERSION $(shell find tools/kiln -name target -prune -o \( -name '*.rs' -o -name 'Cargo.*' \) -print)
 # Programs that rt builds, each of the crate of its name, and kiln, which cargo does.
-proved_programs := target/bin/firing target/bin/viewing target/bin/certifying
+proved_programs := target/bin/firing target/bin/hexfiring target/bin/viewing target/bin/certifying
 kiln_program := target/bin/kiln
 archive := target/staticlib/libjennydusk.a
 
 pages1 := $(wildcard tools/kiln/man/*.1)
 pages5 := $(wildcard tools/kiln/man/*.5)
-images := $(wildcard examples/*.kiln examples/*.txt examples/NOTES.md)
+images := $(wildcard examples/*.kiln examples/*.txt examples/*.hex examples/*.m examples/NOTES.md)
 c_examples := $(wildcard examples/c/*.c)
 prefix := $(abspath $(PREFIX))
 root := $(DESTDIR)$(prefix)

@@ -1,6 +1,6 @@
-/* Calls the library on buffers that it must refuse, and sees that they are left; sees that register 0 stays; runs to
- * ticks, and has listed what a label sees there; has certificates made with each cause; and tries its label rules on
- * every label, beside those of document 01 as they are written here. Prints what went wrong. */
+/* Calls the library on buffers that it must refuse, and sees that they are left; loads from HEX; sees that register 0
+ * stays; runs to ticks, and has listed what a label sees there; has certificates made with each cause; and tries its label
+ * rules on every label, beside those of document 01 as they are written here. Prints what went wrong. */
 #include "jennydusk.h"
 
 #include <stdio.h>
@@ -108,6 +108,96 @@ static void try_calls(void) {
     if (record[JENNYDUSK_END] != JENNYDUSK_STALLED || record[JENNYDUSK_WHY] != JENNYDUSK_WHY_OP)
         wrong = 1, puts("run: another end");
 }
+
+/* ---- HEX */
+
+#define LINE 77 /* no line that a call gives here */
+#define CODE ":0400000005001001E6\n" /* word 0, Ra := 5 */
+#define END ":00000001FF\n"
+
+static uint64_t line;
+static const char machine[] = "M,2,1,0,240,240,5\n";
+
+static uint64_t load_hex(const char *text, const char *hex, size_t words_length, size_t labels_length, size_t span) {
+    line = LINE;
+    return jennydusk_load_hex((const uint8_t *)text, strlen(text), (const uint8_t *)hex, strlen(hex), 34, words,
+                              words_length, labels, labels_length, record, span, &line);
+}
+
+/* The number is all of the answer, and the line is this one. */
+static void expect_line(const char *what, uint64_t answer, unsigned number, uint64_t wanted) {
+    if (line != wanted)
+        wrong = 1, printf("%s: line %llu\n", what, (unsigned long long)line);
+    expect(what, answer, number, 0);
+}
+
+/* A HEX text that is refused beside an M text that isn't. */
+static void expect_refused(const char *what, const char *hex, unsigned number, uint64_t wanted) {
+    expect_line(what, load_hex(machine, hex, SIZE, SIZE, JENNYDUSK_SPAN), number, wanted);
+}
+
+/* Refusals of the M text, whatever the HEX text is, and buffers that are too short, in the order in which they count. */
+static void try_refused_machines(void) {
+    size_t span = JENNYDUSK_SPAN;
+    expect_line("HEX without M text", load_hex("", "x", 0, 0, span), JENNYDUSK_TEXT_LENGTH, 0);
+    expect_line("HEX with no M line", load_hex("W,0,240,1\n", "x", 0, 0, span), JENNYDUSK_MALFORMED, 1);
+    expect_line("HEX with an M line without LF", load_hex("M,2,1,0,240,240,5", END, SIZE, SIZE, span), JENNYDUSK_MALFORMED, 1);
+    expect_line("HEX with a bad label", load_hex("M,2,1,0,240,256,5\nx", "x", 0, 0, span), JENNYDUSK_RANGE, 1);
+    expect_line("HEX with no valid pair", load_hex("M,2,1,0,15,15,5\nx", "x", 0, 0, span), JENNYDUSK_PAIR, 1);
+    expect_line("HEX in short words", load_hex("M,2,1,0,240,240,5\nx", "x", SIZE - 1, SIZE, span), JENNYDUSK_SHORT_MEMORY, 1);
+    expect_line("HEX in short labels", load_hex(machine, END, SIZE, SIZE - 1, span), JENNYDUSK_SHORT_MEMORY, 1);
+    expect_line("HEX with a second line", load_hex("M,2,1,0,240,240,5\nx", "x", SIZE, SIZE, span), JENNYDUSK_ORDER, 2);
+    expect_line("HEX with an image", load_hex(image, CODE END, SIZE, SIZE, span), JENNYDUSK_ORDER, 2);
+    expect_line("HEX to a short buffer", load_hex(machine, CODE END, SIZE, SIZE, span - 1), JENNYDUSK_SHORT_BUFFER, LINE);
+    expect_line("nothing to a short buffer", load_hex("", "", 0, 0, span - 1), JENNYDUSK_SHORT_BUFFER, LINE);
+    expect_line("HEX to no buffer", load_hex(machine, "x", SIZE, SIZE, 0), JENNYDUSK_SHORT_BUFFER, LINE);
+}
+
+static void try_refused_hex(void) {
+    expect_refused("no HEX", "", JENNYDUSK_HEX_RECORD, 1);
+    expect_refused("no end", CODE, JENNYDUSK_HEX_RECORD, 2);
+    expect_refused("an end without LF", CODE ":00000001FF", JENNYDUSK_HEX_RECORD, 2);
+    expect_refused("more behind the end", CODE END "\n", JENNYDUSK_HEX_RECORD, 3);
+    expect_refused("a wrong sum", ":0400000005001001E7\n" END, JENNYDUSK_HEX_RECORD, 1);
+    expect_refused("another type", CODE ":020000040000FA\n" END, JENNYDUSK_HEX_RECORD, 2);
+    expect_refused("a record that says too much", ":0300000005001001E7\n" END, JENNYDUSK_HEX_RECORD, 1);
+    expect_refused("a byte twice", CODE ":0100030000FC\n" END, JENNYDUSK_HEX_BYTE, 2);
+    expect_refused("a byte outside", ":020007000000F7\n", JENNYDUSK_HEX_BYTE, 1);
+    expect_refused("a byte behind 65535", CODE ":02FFFF00000000\n" END, JENNYDUSK_HEX_BYTE, 2);
+    expect_refused("a byte outside, with a wrong sum", ":0100080000F6\n", JENNYDUSK_HEX_RECORD, 1);
+}
+
+struct memory {
+    uint32_t words[SIZE];
+    uint8_t labels[SIZE];
+};
+
+/* An accepted image leaves this memory, and the record that load gives for the M text; what lies behind that is left. */
+static void expect_loaded(const char *what, const char *text, const char *hex, struct memory wanted) {
+    uint64_t loaded[JENNYDUSK_SPAN + 1];
+    memset(record, 1, sizeof record);
+    memset(words, 2, sizeof words);
+    memset(labels, 3, sizeof labels);
+    expect_line(what, load_hex(text, hex, SIZE, SIZE, JENNYDUSK_SPAN + 1), JENNYDUSK_DONE, 0);
+    if (memcmp(words, wanted.words, sizeof words) || memcmp(labels, wanted.labels, sizeof labels))
+        wrong = 1, printf("%s: another memory\n", what);
+    memcpy(loaded, record, sizeof record);
+    load(text, SIZE, JENNYDUSK_SPAN);
+    if (memcmp(loaded, record, sizeof record) || record[JENNYDUSK_SPAN] != 0x0101010101010101)
+        wrong = 1, printf("%s: another record\n", what);
+    keep();
+}
+
+static void try_hex(void) {
+    expect_loaded("no bytes", machine, END, (struct memory){{0, 0}, {240, 240}});
+    expect_loaded("a word", machine, CODE END, (struct memory){{17825797, 0}, {34, 240}});
+    expect_loaded("a byte", machine, ":01000600fFfA\r\n" END, (struct memory){{0, 0xFF0000}, {240, 34}});
+    expect_loaded("bytes of 0", machine, ":0100070000F8\n:0100000000FF\n:00FFFF0002\n:00123401B9\r\n",
+                  (struct memory){{0, 0}, {34, 34}});
+    expect_loaded("memory beyond the size", "M,1,0,0,240,240,5\n", CODE END, (struct memory){{17825797, 0x02020202}, {34, 3}});
+}
+
+/* ---- register 0 */
 
 /* Word 0 sets R0 to 5, and takes its tick alone. */
 static void try_zero_register(void) {
@@ -359,6 +449,9 @@ static void try_labels(void) {
 int main(void) {
     try_refused_loads();
     try_calls();
+    try_refused_machines();
+    try_refused_hex();
+    try_hex();
     try_zero_register();
     try_no_records();
     try_refused_views();

@@ -3,6 +3,8 @@
 use crate::asm::asm;
 use crate::certify::certify;
 use crate::dis::dis;
+use crate::files;
+use crate::hex::hex;
 use crate::labels;
 use crate::run::run;
 use crate::status::{Failure, Status};
@@ -20,7 +22,10 @@ pub struct Arguments {
     pub listing: bool,
     /// asm's -D, each as given.
     pub definitions: Vec<String>,
-    /// The label at which one looks: trace's --as, or LABEL of view and certify.
+    /// run's --hex: a file's name, or `-`.
+    pub hex: Option<String>,
+    /// The label at which one looks: trace's --as, or LABEL of view and certify. Or
+    /// that of the words of a HEX text: --label.
     pub label: Option<u8>,
     /// The tick at which view looks.
     pub tick: Option<u64>,
@@ -52,7 +57,9 @@ pub struct Command {
 const OUTPUT: &str = "-o";
 const LISTING: &str = "-l";
 const DEFINITION: &str = "-D";
-const LABEL: &str = "--as";
+const VIEWER: &str = "--as";
+const HEX: &str = "--hex";
+const LABEL: &str = "--label";
 /// A number has at most so many digits.
 const DIGITS: usize = 10;
 /// Behind it no argument is an option.
@@ -61,7 +68,7 @@ const NO_MORE_OPTIONS: &str = "--";
 pub const HELP: &str = "--help";
 pub const SHORT_HELP: &str = "-h";
 
-pub const COMMANDS: [Command; 6] = [
+pub const COMMANDS: [Command; 7] = [
     Command {
         name: "asm",
         options: &[OUTPUT, LISTING, DEFINITION],
@@ -89,19 +96,37 @@ Writes a source of an image; asm makes the same image of it, to the byte.
     },
     Command {
         name: "run",
-        options: &[OUTPUT],
+        options: &[OUTPUT, HEX, LABEL],
         behind: Behind::Nothing,
-        usage: "kiln run IMAGE [-o LISTING]",
+        usage: "kiln run [--hex HEX --label LABEL] IMAGE [-o LISTING]",
         help: "\
 Runs an image to its end and writes the listing.
-  -o LISTING  write it there instead of to standard output; the file is whole or not there
+  --hex HEX      the words are those of this file, in Intel HEX; IMAGE is then an M line alone
+  --label LABEL  they get this label: a number 0 to 255, or two sets of bits as {2|2}
+  -o LISTING     write it there instead of to standard output; the file is whole or not there
 Exit status: 0 halted, 1 clock spent or stalled, 2 refused, 3 input or output failed.
 ",
         act: run,
     },
     Command {
+        name: "hex",
+        options: &[OUTPUT, LABEL],
+        behind: Behind::Nothing,
+        usage: "kiln hex IMAGE [--label LABEL] [-o HEX]",
+        help: "\
+Writes the words of one label of an image as Intel HEX. The image's first line, this
+text and the label are what run takes with --hex.
+  --label LABEL  the label: a number 0 to 255, or two sets of bits as {2|2};
+                 it may be left out where the words have one label alone
+  -o HEX         write it there instead of to standard output; the file is whole or not there
+Exit status: 0 written, 1 written and something of the image left out, which standard
+error tells, 2 refused, 3 input or output failed.
+",
+        act: hex,
+    },
+    Command {
         name: "trace",
-        options: &[LABEL],
+        options: &[VIEWER],
         behind: Behind::Nothing,
         usage: "kiln trace IMAGE [--as LABEL]",
         help: "\
@@ -170,6 +195,9 @@ impl Command {
             }
         }
         self.place(&operands, &mut arguments)?;
+        if self.options.contains(&HEX) {
+            arguments.try_hex()?;
+        }
         Ok(arguments)
     }
 
@@ -218,7 +246,8 @@ impl Arguments {
     fn set(&mut self, option: &str, value: &str) -> Result<(), String> {
         let is_new = match option {
             OUTPUT => self.output.replace(value.to_string()).is_none(),
-            LABEL => self.label.replace(label(value)?).is_none(),
+            HEX => self.hex.replace(value.to_string()).is_none(),
+            VIEWER | LABEL => self.label.replace(label(value)?).is_none(),
             _ => {
                 self.definitions.push(value.to_string());
                 true
@@ -227,6 +256,20 @@ impl Arguments {
         match is_new {
             true => Ok(()),
             false => Err(format!("{option} is given twice")),
+        }
+    }
+
+    /// HEX needs a label, and a label HEX; each file is read whole, so that standard
+    /// input can be one of the two alone.
+    fn try_hex(&self) -> Result<(), String> {
+        let is_standard = |name: &String| name == files::STANDARD;
+        match &self.hex {
+            Some(_) if self.label.is_none() => Err(format!("{HEX} lacks its {LABEL}")),
+            None if self.label.is_some() => Err(format!("{LABEL} lacks its {HEX}")),
+            Some(hex) if is_standard(hex) && is_standard(&self.file) => {
+                Err("two files are standard input".to_string())
+            }
+            _ => Ok(()),
         }
     }
 }

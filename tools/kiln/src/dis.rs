@@ -4,9 +4,7 @@
 use crate::command::Arguments;
 use crate::files;
 use crate::image::{self, Cell, Gate, Line, Machine};
-use crate::library;
 use crate::ops::{self, Op};
-use crate::refusals;
 use crate::status::{Failure, Status};
 use std::collections::BTreeSet;
 
@@ -14,12 +12,7 @@ use std::collections::BTreeSet;
 const INDENT: usize = 8;
 
 pub fn dis(arguments: &Arguments) -> Result<Status, Failure> {
-    let text = files::read_image(&arguments.file)?;
-    library::Machine::load(&text)
-        .map_err(|refusal| refusals::failure(&arguments.file, &text, &refusal))?;
-    // The loader accepts digits, commas, four letters and LF alone.
-    let lines = image::parse(&String::from_utf8_lossy(&text))
-        .expect("an accepted image has lines of known form");
+    let lines = image::read(&arguments.file)?;
     files::write(arguments.output.as_deref(), source(&lines).as_bytes())?;
     Ok(Status::Done)
 }

@@ -11,8 +11,9 @@ use std::path::{Path, PathBuf};
 use std::process;
 
 /// The name that stands for standard input or standard output.
-const STANDARD: &str = "-";
-/// Longer than any source that makes an image, and short enough to be kept.
+pub const STANDARD: &str = "-";
+/// Longer than any source that makes an image, and than a HEX text with a record
+/// for each byte; and short enough to be kept.
 const LONGEST: u64 = 16 << 20;
 /// So many names are tried for a temporary file.
 const NAMES: u32 = 100;

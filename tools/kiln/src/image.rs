@@ -1,6 +1,10 @@
 //! An image taken apart into its lines, and written again. Whether it is one is
 //! the library's to say; here a line is a letter and its numbers.
 
+use crate::files;
+use crate::library;
+use crate::refusals;
+use crate::status::Failure;
 use std::fmt;
 
 /// The M line.
@@ -71,6 +75,15 @@ impl fmt::Display for Line {
             Line::Word(Cell { number, label, value }) => write!(to, "W,{number},{label},{value}"),
         }
     }
+}
+
+/// The lines of the image in a file; one that the library refuses is told in words.
+pub fn read(name: &str) -> Result<Vec<Line>, Failure> {
+    let text = files::read_image(name)?;
+    library::Machine::load(&text).map_err(|refusal| refusals::failure(name, &text, &refusal))?;
+    // The loader accepts digits, commas, four letters and LF alone.
+    let lines = parse(&String::from_utf8_lossy(&text));
+    Ok(lines.expect("an accepted image has lines of known form"))
 }
 
 /// The lines of a text, of an image that the library has accepted.

@@ -64,6 +64,9 @@ const NUMBERS: u64 = 256;
 const DONE: u64 = 0;
 /// The refusal of a view at a tick above the limit.
 pub const TICK: u8 = 10;
+/// The refusals of a HEX text: a record that is none, a byte that can't be placed.
+pub const HEX_RECORD: u8 = 11;
+pub const HEX_BYTE: u8 = 12;
 /// Longer than any listing, which has some 46,000 bytes at most.
 const LISTING: usize = 65_536;
 /// Longer than a listing without W lines, and than a W line.
@@ -74,6 +77,7 @@ const WORD_LINE: usize = 32;
 #[link(name = "jennydusk", kind = "static")]
 extern "C" {
     fn jennydusk_load(text: *const u8, text_length: usize, words: *mut u32, words_length: usize, labels: *mut u8, labels_length: usize, record: *mut u64, record_length: usize) -> u64;
+    fn jennydusk_load_hex(text: *const u8, text_length: usize, hex: *const u8, hex_length: usize, label: u8, words: *mut u32, words_length: usize, labels: *mut u8, labels_length: usize, record: *mut u64, record_length: usize, line: *mut u64) -> u64;
     fn jennydusk_step(record: *mut u64, record_length: usize, words: *mut u32, words_length: usize, labels: *mut u8, labels_length: usize) -> u64;
     fn jennydusk_run(record: *mut u64, record_length: usize, words: *mut u32, words_length: usize, labels: *mut u8, labels_length: usize) -> u64;
     fn jennydusk_run_to(record: *mut u64, record_length: usize, words: *mut u32, words_length: usize, labels: *mut u8, labels_length: usize, tick: u64) -> u64;
@@ -84,8 +88,8 @@ extern "C" {
     fn jennydusk_flows(from: u8, to: u8) -> bool;
 }
 
-/// Why a text is no image: the refusal's number and its line. Or why an image
-/// can't be viewed: TICK, and the limit.
+/// Why a text is no image: the refusal's number and its line, of the HEX text for
+/// HEX_RECORD and HEX_BYTE. Or why an image can't be viewed: TICK, and the limit.
 #[derive(Clone, Copy, Debug, PartialEq, Eq)]
 pub struct Refusal {
     pub number: u8,
@@ -145,15 +149,29 @@ impl Clone for Machine {
     }
 }
 
-/// The calls. Every pointer is that of a slice of the length beside it, and
-/// slices that may be changed overlap no other.
+/// The calls. Every pointer is that of a slice of the length beside it, or of the
+/// one word for a line, and what may be changed overlaps nothing else.
 #[rustfmt::skip]
 impl Machine {
+    /// What a load is lent: no record yet, and memory.
+    fn unloaded() -> Machine {
+        Machine { record: [0; place::SPAN], words: vec![0; WORDS], labels: vec![0; WORDS] }
+    }
+
     pub fn load(text: &[u8]) -> Result<Machine, Refusal> {
-        let mut machine = Machine { record: [0; place::SPAN], words: vec![0; WORDS], labels: vec![0; WORDS] };
+        let mut machine = Machine::unloaded();
         let Machine { record, words, labels } = &mut machine;
         let answer = unsafe { jennydusk_load(text.as_ptr(), text.len(), words.as_mut_ptr(), words.len(), labels.as_mut_ptr(), labels.len(), record.as_mut_ptr(), record.len()) };
         if answer == DONE { Ok(machine) } else { Err(refusal(answer)) }
+    }
+
+    /// Loads an M text of one line with a HEX text, whose words get the label.
+    pub fn load_hex(text: &[u8], hex: &[u8], label: u8) -> Result<Machine, Refusal> {
+        let mut machine = Machine::unloaded();
+        let Machine { record, words, labels } = &mut machine;
+        let mut line = 0;
+        let answer = unsafe { jennydusk_load_hex(text.as_ptr(), text.len(), hex.as_ptr(), hex.len(), label, words.as_mut_ptr(), words.len(), labels.as_mut_ptr(), labels.len(), record.as_mut_ptr(), record.len(), &mut line) };
+        if answer == DONE { Ok(machine) } else { Err(Refusal { number: answer as u8, beside: line as usize }) }
     }
 
     pub fn step(&mut self) {
@@ -446,6 +464,8 @@ mod tests {
             ("TIMED_FROM_OUTSIDE", TIMED_FROM_OUTSIDE),
             ("DONE", DONE),
             ("TICK", TICK.into()),
+            ("HEX_RECORD", HEX_RECORD.into()),
+            ("HEX_BYTE", HEX_BYTE.into()),
             ("HIGHEST", HIGHEST.into()),
         ];
         for (name, number) in numbers {

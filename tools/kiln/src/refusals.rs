@@ -1,9 +1,10 @@
-//! Each refusal of the loader in words, with its number, and that of a view. The
+//! Each refusal of the loaders in words, with its number, and that of a view. The
 //! library gives the number and the line; a number has several causes, and the
 //! line shows which.
 
 use crate::files;
-use crate::library::{Refusal, TEXT, TICK};
+use crate::library::{Refusal, HEX_BYTE, HEX_RECORD, TEXT, TICK};
+use crate::records;
 use crate::status::Failure;
 
 const LF: u8 = b'\n';
@@ -14,7 +15,7 @@ const MACHINE: &[u8] = b"M";
 const GATE: &[u8] = b"G";
 const GATES: usize = 8;
 
-/// `X,4,3`, the line that `firing` and `viewing` print.
+/// `X,4,3`, the line that `firing`, `hexfiring` and `viewing` print.
 pub fn line(refusal: &Refusal) -> String {
     format!("X,{},{}\n", refusal.number, refusal.beside)
 }
@@ -52,6 +53,8 @@ pub fn cause(text: &[u8], refusal: &Refusal) -> &'static str {
         6 => "the memory is shorter than the size",
         9 => "this is an R line for register 0, which is always 0",
         TICK => "the tick is above the limit",
+        HEX_RECORD => records::malformed(text, refusal.beside),
+        HEX_BYTE => records::misplaced(text, refusal.beside),
         _ => "the library knows why",
     }
 }
@@ -72,10 +75,13 @@ fn is_ninth_gate(line: &[u8], before: &[&[u8]]) -> bool {
     is_gate(line) && before.iter().filter(|line| is_gate(line)).count() == GATES
 }
 
+/// In an image the line behind the first can be misplaced only as a second M line.
+/// So where it is another one, the text is an M text, which has no second line.
 fn misplaced(line: &[u8], before: &[&[u8]]) -> &'static str {
     let last = before.last().and_then(|line| place(line));
     match letter(line) {
         MACHINE => "this is a second M line",
+        _ if before.len() == 1 => "the M text beside HEX has one line alone",
         _ if place(line) < last => "the kind of the line is out of order",
         _ => "the number doesn't rise",
     }
