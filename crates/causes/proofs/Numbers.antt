@@ -6,7 +6,7 @@ use mathlib.Core.Bool.{true, cond, false≢true}
 use native.Mathlib.Omega.{arith}
 use lib.Dec.{eqb}
 use Rattle.causes.specs.declared.Cause.{Cause}
-use Rattle.causes.specs.declared.Cause.the-variants.{TextLength, MalformedLine, OutOfRange, OutOfOrder, InvalidPair, ShortMemory, IllFormed, ShortOutput, ZeroRegister, TickAboveLimit, MalformedRecord, MisplacedByte}
+use Rattle.causes.specs.declared.Cause.the-variants.{TextLength, MalformedLine, OutOfRange, OutOfOrder, InvalidPair, ShortMemory, IllFormed, ShortOutput, ZeroRegister, TickAboveLimit, MalformedRecord, MisplacedByte, GatePair}
 use Rattle.causes.specs.declared.Outcome.{Outcome}
 use Rattle.causes.specs.declared.Outcome.the-variants.{Done, Refused}
 use Rattle.causes.specs.Causes.{numberOf, isDone}
@@ -25,7 +25,8 @@ outcomeOf n =
     (cond (eqb n 8) (Refused ShortOutput)
     (cond (eqb n 9) (Refused ZeroRegister)
     (cond (eqb n 10) (Refused TickAboveLimit)
-    (cond (eqb n 11) (Refused MalformedRecord) (Refused MisplacedByte))))))))))))
+    (cond (eqb n 11) (Refused MalformedRecord)
+    (cond (eqb n 12) (Refused MisplacedByte) (Refused GatePair)))))))))))))
 
 -- Every outcome is the one of its number.
 outcome-of-number : (o : Outcome) → outcomeOf (numberOf o) ≡ o
@@ -43,6 +44,7 @@ outcome-of-number (Refused ZeroRegister) = refl
 outcome-of-number (Refused TickAboveLimit) = refl
 outcome-of-number (Refused MalformedRecord) = refl
 outcome-of-number (Refused MisplacedByte) = refl
+outcome-of-number (Refused GatePair) = refl
 
 -- No two outcomes have one number.
 pub same-outcome : (o o′ : Outcome) → numberOf o ≡ numberOf o′ → o ≡ o′
@@ -63,6 +65,7 @@ small-number (Refused ZeroRegister) = omega arith
 small-number (Refused TickAboveLimit) = omega arith
 small-number (Refused MalformedRecord) = omega arith
 small-number (Refused MisplacedByte) = omega arith
+small-number (Refused GatePair) = omega arith
 
 -- No refusal is done.
 pub done-or-refused {ℓ} : {P : Type ℓ} {o : Outcome} {c : Cause} → o ≡ Done → o ≡ Refused c → P

@@ -3,7 +3,7 @@
 use Prim.Native.Nat.{ℕ}
 use mathlib.Core.Bool.{Bool, true, false}
 use Rattle.causes.specs.declared.Cause.{Cause}
-use Rattle.causes.specs.declared.Cause.the-variants.{TextLength, MalformedLine, OutOfRange, OutOfOrder, InvalidPair, ShortMemory, IllFormed, ShortOutput, ZeroRegister, TickAboveLimit, MalformedRecord, MisplacedByte}
+use Rattle.causes.specs.declared.Cause.the-variants.{TextLength, MalformedLine, OutOfRange, OutOfOrder, InvalidPair, ShortMemory, IllFormed, ShortOutput, ZeroRegister, TickAboveLimit, MalformedRecord, MisplacedByte, GatePair}
 use Rattle.causes.specs.declared.Outcome.{Outcome}
 use Rattle.causes.specs.declared.Outcome.the-variants.{Done, Refused}
 
@@ -21,6 +21,7 @@ causeNumber ZeroRegister = 9
 causeNumber TickAboveLimit = 10
 causeNumber MalformedRecord = 11
 causeNumber MisplacedByte = 12
+causeNumber GatePair = 13
 
 -- The number of an outcome: that of the cause, or 0. No two outcomes have one number: proofs/Numbers.antt.
 abbrev pub numberOf : Outcome → ℕ

@@ -29,6 +29,8 @@ pub enum Cause {
     MalformedRecord,
     // A record of HEX gives a byte outside memory, or one that was given before.
     MisplacedByte,
+    // The pair of a G line isn't valid.
+    GatePair,
 }
 
 // How a call of load, step, run, print or view ended: it was carried out, or refused.
@@ -55,6 +57,7 @@ impl Cause {
             Cause::TickAboveLimit => 10,
             Cause::MalformedRecord => 11,
             Cause::MisplacedByte => 12,
+            Cause::GatePair => 13,
         }
     }
 }

@@ -6,7 +6,7 @@ use mathlib.Core.Bool.{Bool, true, false}
 use native.Mathlib.Omega.{arith}
 use lib.ListN.{getD}
 use Rattle.model.specs.declared.Fixed.{Fixed}
-use Rattle.model.specs.Ops.{noGate}
+use Rattle.model.specs.WellFormed.{noGate}
 use Rattle.model.specs.Seen.{within}
 use Rattle.model.specs.Certificate.{leadsWithin}
 

@@ -18,7 +18,7 @@ use Rattle.model.specs.declared.Fixed.{Fixed}
 use Rattle.model.specs.declared.Control.{Control}
 use Rattle.model.specs.Numbers.{mostGates, registerCount, valueCount}
 use Rattle.model.specs.Record.{Bank, Machine, returnOf, pairOf, endTickOf}
-use Rattle.model.specs.Ops.{noGate}
+use Rattle.model.specs.WellFormed.{noGate}
 use Rattle.encoder.specs.Places as at
 use Rattle.encoder.specs.Layout.{kindOf, gatesWords, wordsOf, holding}
 use Rattle.encoder.proofs.Laws.{length-words}

@@ -18,9 +18,9 @@ use Rattle.model.specs.declared.Pair.{Pair}
 use Rattle.model.specs.declared.CallGate.{CallGate}
 use Rattle.model.specs.Numbers.{zeroRegister, registerCount}
 use Rattle.model.specs.Record.{State, Location, register, word, valueAt, labelAt, isEmpty, isGate, pairOf, newest, inUpcall}
-use Rattle.model.specs.WellFormed.{isValid}
+use Rattle.model.specs.WellFormed.{isValid, noGate}
 use Rattle.model.specs.Word.{Arithmetic, add, subtract, and, or, xor, less, multiply, divide, remainder, Rule, raise, relabel, Op, immediate, arithmetic, load, store, branch, jump, readClock, setLabel, setPair, upcall, endUpcall, gateCall, gateReturn, halt, opField, aField, nField, decode, compute}
-use Rattle.model.specs.Ops.{writable, Write, nothing, value, label, Change, write, goto, enter, openUpcall, openGate, closeGate, stop, Effect, does, ends, Row, allows, newPairAllowed, mayUpcall, mayCallGate, mayReturn, multiplyTicks, arithmeticTicks, noGate, isLabel, Ra, Rb, newPair, gate, table}
+use Rattle.model.specs.Ops.{writable, Write, nothing, value, label, Change, write, goto, enter, openUpcall, openGate, closeGate, stop, Effect, does, ends, Row, allows, newPairAllowed, mayUpcall, mayCallGate, mayReturn, multiplyTicks, arithmeticTicks, isLabel, Ra, Rb, newPair, gate, table}
 use Rattle.model.specs.Step.{known, fetchAllowed, fetch, Decision, rest, spend, stall, close, carry, endTick, finish, fault, passed, attempt, inTime, plan, beyondLimit, inLimit, running, decide}
 use Rattle.model.proofs.Ready.{_⊑_, Ready, register-value}
 use Rattle.model.proofs.Division.{division-ticks, division-lt}
@@ -249,10 +249,10 @@ module _ (s : State) (ready : Ready s) (w : ℕ) where
             (gates {g = gate s w}
             (record {
               number = Rb s w;
-              below = ltb-true _ _ (h .0 .0 .0 .0 .1);
+              below = ltb-true _ _ (h .0 .0 .0 .1);
               listed = refl;
-              empty = h .0 .0 .0 .0 .0;
-              valid = h .0 .0 .0 .1;
+              empty = h .0 .0 .0 .0;
+              valid = ready .fit .fixed .pairs (Rb s w) (ltb-true _ _ (h .0 .0 .0 .1));
               pc = record { holds = h .0 .0 .1 };
               timing = record { holds = h .0 .1 };
             }));

@@ -10,6 +10,7 @@ pub mod RunTo
 pub mod Load
 pub mod HexLoad
 pub mod Program
+pub mod PairTest
 pub mod Facts
 pub mod HexFacts
 pub mod Noninterference

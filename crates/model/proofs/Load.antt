@@ -8,9 +8,9 @@ use mathlib.Core.List.{List, [], _∷_, _++_}
 use native.Mathlib.Nat.{lt-of-lt-of-le}
 use native.Mathlib.Omega.{arith}
 use lib.Dec.{leb, ltb, eqb, lit<, lit≤}
-use lib.ListN.{length, drop, replicate, length-set, length-append, length-replicate, getD-replicate, List·getD-append}
-use borrow.Author.Tests.{leb-true, ltb-true, eq-eqb}
-use Rattle.labels.specs.Label.{labelCount, lowest}
+use lib.ListN.{length, drop, replicate, length-set, length-append, length-replicate, getD, getD-replicate, List·getD-append}
+use borrow.Author.Tests.{leb-true, ltb-true, eqb-false, eq-eqb}
+use Rattle.labels.specs.Label.{validPair, labelCount, lowest}
 use Rattle.labels.proofs.Constants.{lowest-number}
 use Rattle.causes.specs.declared.Cause.{Cause}
 use Rattle.causes.specs.declared.Cause.the-variants.{TextLength, MalformedLine, OutOfRange, InvalidPair, ShortMemory}
@@ -20,6 +20,7 @@ use Rattle.causes.specs.Causes.{causeNumber}
 use Rattle.causes.specs.Tests.{unless, firstRefusal}
 use Rattle.causes.proofs.Numbers.{done-or-refused}
 use Rattle.causes.proofs.Order.{AllPass, all-pass, AllCauses, some-cause}
+use Rattle.model.specs.declared.CallGate.{CallGate}
 use Rattle.model.specs.declared.Control.{Control}
 use Rattle.model.specs.declared.Call.the-variants.{Empty}
 use Rattle.model.specs.declared.format.Line.{Line}
@@ -27,8 +28,8 @@ use Rattle.model.specs.declared.format.Line.the-variants.{M, G, R, W, Ma
 use Rattle.model.specs.declared.judging.Last.{Last}
 use Rattle.model.specs.declared.judging.Header.{Header}
 use Rattle.model.specs.Record.{Bank, Machine, State, machineOf, stateOf}
-use Rattle.model.specs.WellFormed.{isValid, endInRange, zeroReads, wellFormed, lentWhole}
-use Rattle.model.specs.Numbers.{valueCount}
+use Rattle.model.specs.WellFormed.{isValid, endInRange, zeroReads, noGate, wellFormed, lentWhole}
+use Rattle.model.specs.Numbers.{mostGates, valueCount}
 use Rattle.model.specs.Inner.Typed.{Typed, Below, BankTyped, RegistersTyped}
 use Rattle.model.specs.Ops.{writable, isLabel}
 use Rattle.model.specs.Step.{running, setValue}
@@ -37,7 +38,7 @@ use Rattle.model.specs.Load.{machineOfHeader, withGate, withRegister, wi
 use Rattle.model.specs.Program.{stateOfLoad}
 use Rattle.model.proofs.Truth.{choice, and-iff, clash}
 use Rattle.model.proofs.Ready.{FixedFit, none, fit, fits, whole-lengths, whole-lent, Ready}
-use Rattle.model.proofs.Writes.{zero-left}
+use Rattle.model.proofs.Writes.{set-at, zero-left}
 use Rattle.model.proofs.Legal.{writable-register}
 use Rattle.model.proofs.Step.{value-typed, label-typed}
 
@@ -61,19 +62,24 @@ pub record Lent (size : ℕ) (m : Bank) : Type 0 where
 -- The record and the memory so far are in order.
 record InOrder (r : Machine) (m : Bank) : Type 0 where
   fixed : FixedFit (r .fixed)
+  places : length (r .fixed .gates) ≡ mostGates
   started : Started (r .control)
   registers : RegistersTyped (r .registers)
   zero : zeroReads (r .registers) ≡ true
   memory : Lent (r .fixed .size) m
 
--- One more gate.
+-- One more gate, whose pair is valid.
 gate-in-order : (r : Machine) (m : Bank) (pc p t : ℕ) → InOrder r m → gateInRange (r .fixed .count) pc p t ≡ true
-    → InOrder (withGate r pc p t) m
+    → validPair p t ≡ true → InOrder (withGate r pc p t) m
 unfolding gateInRange
-gate-in-order r m pc p t h e =
+gate-in-order r m pc p t h e v =
     let k = simp and-iff at e in
-    let c = ltb-true (r .fixed .count) 8 (k .1) in
+    let n = r .fixed .count in
+    let c = ltb-true n 8 (k .1) in
     let f = h .fixed in
+    let gs = r .fixed .gates in
+    let there : n < length gs = rw (h .places) c in
+    let g : CallGate = record { entry = pc; pair = record { pc = p; timing = t } } in
     record {
       fixed =
           record {
@@ -82,7 +88,12 @@ gate-in-order r m pc p t h e =
             limitLow = f .limitLow;
             limitHigh = f .limitHigh;
             gates = omega arith;
+            pairs = λ j l. rw (set-at noGate gs n j g there)
+                (choice (λ (x : CallGate). isValid (x .pair) ≡ true) (eqb n j) g (getD gs j noGate)
+                (λ d. v)
+                (λ d. let other = eqb-false n j d in f .pairs j (omega arith)));
           };
+      places = length-set gs n g ∙ h .places;
       started = h .started;
       registers = h .registers;
       zero = h .zero;
@@ -108,6 +119,7 @@ register-in-order r m k l v h e z =
     let j : k < length (b .labels) = rw (h .registers .labels) (ltb-true k 16 (q .0 .0)) in
     record {
       fixed = h .fixed;
+      places = h .places;
       started = h .started;
       registers =
           record {
@@ -130,6 +142,7 @@ word-in-order r m k l v h e =
     let j = lt-of-lt-of-le k-below (h .memory .labels) in
     record {
       fixed = h .fixed;
+      places = h .places;
       started = h .started;
       registers = h .registers;
       zero = h .zero;
@@ -167,7 +180,7 @@ line-in-order : (r : Machine) (m : Bank) (last : Last) (l : Line)
     → AllPass (lineTests (r .fixed .size) (r .fixed .count) last l) → InOrder r m → InOrder (withLine r l) (withWord m l)
 unfolding lineTests
 line-in-order r m last (M a b c d e f) q h = clash (q .0) refl
-line-in-order r m last (G pc p t) q h = gate-in-order r m pc p t h (q .1 .0)
+line-in-order r m last (G pc p t) q h = gate-in-order r m pc p t h (q .1 .0) (q .1 .1 .0)
 line-in-order r m last (R k l v) q h = register-in-order r m k l v h (q .1 .0) (q .1 .1 .1 .0)
 line-in-order r m last (W k l v) q h = word-in-order r m k l v h (q .1 .0)
 line-in-order r m last Malformed q h = clash (q .0) refl
@@ -227,7 +240,9 @@ header-in-order h m e v =
             limitLow = leb-true 1 (h .limit) (q .1 .0);
             limitHigh = leb-true (h .limit) (2 ^ 24) (q .1 .1);
             gates = lit≤ tt;
+            pairs = λ k l. absurd (omega arith);
           };
+      places = refl;
       started = record { valid = v; clock = refl; first = refl; second = refl; end = refl; why = refl };
       registers = record { numbers = blank-typed 16 (record { values = []; labels = [] }); values = refl; labels = refl };
       zero = unfold zeroReads in eq-eqb lowest lowest refl;
@@ -327,7 +342,7 @@ pub heads-loaded : {m : Bank} {r : Machine} → Heads m r → (b : Bank) → Len
 heads-loaded {r = r} a b l =
     let h = heads-in-order a in
     in-order-loaded r b
-    (record { fixed = h .fixed; started = h .started; registers = h .registers; zero = h .zero; memory = l })
+    (record { fixed = h .fixed; places = h .places; started = h .started; registers = h .registers; zero = h .zero; memory = l })
 
 -- An accepted text: a header that is accepted, and so are the lines behind it.
 pub text-accepts : (text : List ℕ) (m : Bank) (r : Machine) → judgeText text m ≡ accept r
@@ -393,7 +408,7 @@ line-causes : (size count : ℕ) (last : Last) (l : Line)
     → AllCauses Other (lineTests size count last l)
 unfolding lineTests
 line-causes size count last (M a b c d e f) = (refl, tt)
-line-causes size count last (G pc p t) = (refl, (refl, tt))
+line-causes size count last (G pc p t) = (refl, (refl, (refl, tt)))
 line-causes size count last (R k l v) = (refl, (refl, (refl, (refl, tt))))
 line-causes size count last (W k l v) = (refl, (refl, (refl, tt)))
 line-causes size count last Malformed = (refl, tt)

@@ -1,24 +1,25 @@
 -- What a well-formed state has: the definition's test of its record taken apart, what the types say of its lists, and
 -- that its memory is lent whole. Every law about a step rests on it.
 -- Assumes nothing.
-use Prim.Native.Nat.{ℕ, _^_, _<_, _≤_}
-use mathlib.Core.Path.{_≡_, refl}
+use Prim.Native.Nat.{ℕ, zero, suc, _^_, _<_, _≤_}
+use mathlib.Core.Path.{_≡_, refl, sym, subst}
 use mathlib.Core.Bool.{true, false}
 use mathlib.Core.Logic.{⊎-elim}
 use mathlib.Core.List.{List}
 use native.Mathlib.Omega.{arith}
-use lib.Dec.{ltb, lit<}
+use lib.Dec.{ltb, eqb, lit<}
 use lib.ListN.{length, getD, List·getD-eq-default}
-use borrow.Author.Tests.{leb-true, le-leb, ltb-true, ltb-false, lt-ltb, eqb-true}
+use borrow.Author.Tests.{leb-true, le-leb, ltb-true, ltb-false, lt-ltb, eqb-true, eqb-false}
 use Rattle.labels.specs.Label.{principals, lowest}
 use Rattle.labels.proofs.Laws.{Flows}
 use Rattle.model.specs.declared.Pair.{Pair}
+use Rattle.model.specs.declared.CallGate.{CallGate}
 use Rattle.model.specs.declared.Fixed.{Fixed}
 use Rattle.model.specs.declared.Control.{Control}
 use Rattle.model.specs.declared.Call.{Call}
 use Rattle.model.specs.declared.Call.the-variants.{Empty, Gate, Upcall}
 use Rattle.model.specs.Record.{Bank, Machine, State, register, valueAt, labelAt, machineOf}
-use Rattle.model.specs.WellFormed.{isValid, fixedInRange, endInRange, upcallWellFormed, callsWellFormed, zeroReads, wellFormed, lentWhole}
+use Rattle.model.specs.WellFormed.{isValid, fixedInRange, endInRange, upcallWellFormed, callsWellFormed, zeroReads, noGate, gatesValid, wellFormed, lentWhole}
 use Rattle.model.specs.Numbers.{zeroRegister, valueCount}
 use Rattle.model.specs.Inner.Typed.{Below, Typed}
 use Rattle.model.proofs.Truth.{either, and-iff, clash}
@@ -30,13 +31,14 @@ _⊑_ = Flows principals
 infix 4 _⊑_
 -- ---- the test taken apart
 
--- The ranges of size, limit and number of gates.
+-- The ranges of size, limit and number of gates, and the pairs of the gates.
 pub record FixedFit (f : Fixed) : Type 0 where
   pub sizeLow : 1 ≤ f .size
   pub sizeHigh : f .size ≤ 2048
   pub limitLow : 1 ≤ f .limit
   pub limitHigh : f .limit ≤ 2 ^ 24
   pub gates : f .count ≤ 8
+  pub pairs : (k : ℕ) → k < f .count → isValid (getD (f .gates) k noGate .pair) ≡ true
 
 -- What is asked of an upcall that is kept while the pair is `now` and the clock stands at `clock`.
 pub record UpcallFit (now : Pair) (clock : ℕ) (q : Pair) (e : ℕ) : Type 0 where
@@ -62,9 +64,26 @@ pub record Fit (r : Machine) : Type 0 where
   pub calls : CallsFit (r .control .pair) (r .control .clock) (r .control .first) (r .control .second)
   pub zero : zeroReads (r .registers) ≡ true
 
-fixed-fit : (f : Fixed) → fixedInRange f ≡ true → FixedFit f
+-- Of gates that pass the test, each has a valid pair.
+gate-valid : (gs : List CallGate) (n : ℕ) → gatesValid gs n ≡ true → (k : ℕ) → k < n → isValid (getD gs k noGate .pair) ≡ true
+unfolding gatesValid
+gate-valid gs zero e k h = absurd (omega arith)
+gate-valid gs (suc n) e k h =
+    let q = and-iff _ _ .0 e in
+    ⊎-elim
+    (λ (d : eqb k n ≡ true). subst (λ (j : ℕ). isValid (getD gs j noGate .pair) ≡ true) (sym (eqb-true k n d)) (q .1))
+    (λ (d : eqb k n ≡ false). let other = eqb-false k n d in gate-valid gs n (q .0) k (omega arith))
+    (either (eqb k n))
+
+-- Gates that each have one pass it.
+gates-valid : (gs : List CallGate) (n : ℕ) → ((k : ℕ) → k < n → isValid (getD gs k noGate .pair) ≡ true) → gatesValid gs n ≡ true
+unfolding gatesValid
+gates-valid gs zero h = refl
+gates-valid gs (suc n) h = rw (gates-valid gs n (λ k l. h k (omega arith)), h n (omega arith))
+
+fixed-fit : (f : Fixed) → fixedInRange f ≡ true → gatesValid (f .gates) (f .count) ≡ true → FixedFit f
 unfolding fixedInRange
-fixed-fit f e =
+fixed-fit f e g =
     let h = simp and-iff at e in
     record {
       sizeLow = leb-true 1 (f .size) (h .0 .0 .0);
@@ -72,6 +91,7 @@ fixed-fit f e =
       limitLow = leb-true 1 (f .limit) (h .0 .1 .0);
       limitHigh = leb-true (f .limit) (2 ^ 24) (h .0 .1 .1);
       gates = leb-true (f .count) 8 (h .1);
+      pairs = gate-valid (f .gates) (f .count) g;
     }
 
 fixed-fits : {f : Fixed} → FixedFit f → fixedInRange f ≡ true
@@ -117,18 +137,20 @@ unfolding wellFormed
 fit r e =
     let h = simp and-iff at e in
     record {
-      fixed = fixed-fit (r .fixed) (h .0 .0 .0 .0 .0);
-      end = h .0 .0 .0 .0 .1;
-      clock = leb-true (r .control .clock) (r .fixed .limit) (h .0 .0 .0 .1);
-      valid = h .0 .0 .1;
-      calls = calls-fit (r .control) (r .control .first) (r .control .second) (h .0 .1);
-      zero = h .1;
+      fixed = fixed-fit (r .fixed) (h .0 .0 .0 .0 .0 .0) (h .1);
+      end = h .0 .0 .0 .0 .0 .1;
+      clock = leb-true (r .control .clock) (r .fixed .limit) (h .0 .0 .0 .0 .1);
+      valid = h .0 .0 .0 .1;
+      calls = calls-fit (r .control) (r .control .first) (r .control .second) (h .0 .0 .1);
+      zero = h .0 .1;
     }
 
 -- A record that is well-formed in each respect passes the test.
 pub fits : (r : Machine) → Fit r → wellFormed r ≡ true
 unfolding wellFormed
-fits r h = rw (fixed-fits (h .fixed), h .end, le-leb _ _ (h .clock), h .valid, calls-fits (r .control) (h .calls), h .zero)
+fits r h =
+    rw
+    (fixed-fits (h .fixed), h .end, le-leb _ _ (h .clock), h .valid, calls-fits (r .control) (h .calls), h .zero, gates-valid _ _ (h .fixed .pairs))
 
 -- ---- the memory that is lent
 

@@ -73,7 +73,7 @@ step-lengths s = written-lengths s (writeOf s (decide s))
 -- Numbers below k stay so after one below k is set.
 below-set : {k n : ℕ} (xs : List ℕ) (i v : ℕ) → i < length xs → v < k → Below k n xs → Below k n (set xs i v)
 below-set {k} xs i v h lt b j g =
-    rw (set-at xs i j v h) (choice (λ (x : ℕ). x < k) (eqb i j) v (getD xs j 0) (λ e. lt) (λ e. b j g))
+    rw (set-at 0 xs i j v h) (choice (λ (x : ℕ). x < k) (eqb i j) v (getD xs j 0) (λ e. lt) (λ e. b j g))
 
 -- So do values and labels, after a value or a label is set.
 pub value-typed : {n : ℕ} (b : Bank) (k v : ℕ) → k < length (b .values) → v < valueCount → BankTyped n b

@@ -29,11 +29,12 @@ pub record There (s : State) (x : Location) : Type 0 where
   pub label : indexOf x < length (bankOf s x .labels)
 
 -- What stands at j in a list with v set at i.
-pub set-at : (xs : List ℕ) (i j v : ℕ) → i < length xs → getD (set xs i v) j 0 ≡ cond (eqb i j) v (getD xs j 0)
-set-at xs i j v h =
+pub set-at : {A : Type 0} (d : A) (xs : List A) (i j : ℕ) (v : A) → i < length xs
+    → getD (set xs i v) j d ≡ cond (eqb i j) v (getD xs j d)
+set-at d xs i j v h =
     ⊎-elim
-    (λ e. rw e (subst (λ (k : ℕ). getD (set xs i v) k 0 ≡ v) (eqb-true i j e) (getD-set-same xs i v 0 h)))
-    (λ e. rw e (getD-set-other xs i j v 0 (λ q. eqb-false i j e (sym q))))
+    (λ e. rw e (subst (λ (k : ℕ). getD (set xs i v) k d ≡ v) (eqb-true i j e) (getD-set-same xs i v d h)))
+    (λ e. rw e (getD-set-other xs i j v d (λ q. eqb-false i j e (sym q))))
     (either (eqb i j))
 
 -- Where another number than register 0's is set, that one stays.
@@ -44,19 +45,19 @@ zero-left xs k v h = getD-set-other xs k zeroRegister v 0 (λ q. omega (arith, h
 pub value-after-value : (s : State) (x y : Location) (v : ℕ) → There s x
     → valueAt (written s (value x v)) y ≡ cond (same x y) v (valueAt s y)
 unfolding valueAt written
-value-after-value s (register j) (register k) v h = set-at (s .registers .values) j k v (h .value)
+value-after-value s (register j) (register k) v h = set-at 0 (s .registers .values) j k v (h .value)
 value-after-value s (register j) (word k) v h = refl
 value-after-value s (word j) (register k) v h = refl
-value-after-value s (word j) (word k) v h = set-at (s .memory .values) j k v (h .value)
+value-after-value s (word j) (word k) v h = set-at 0 (s .memory .values) j k v (h .value)
 
 -- A label that is set stands at its location alone.
 pub label-after-label : (s : State) (x y : Location) (l : ℕ) → There s x
     → labelAt (written s (label x l)) y ≡ cond (same x y) l (labelAt s y)
 unfolding labelAt written
-label-after-label s (register j) (register k) l h = set-at (s .registers .labels) j k l (h .label)
+label-after-label s (register j) (register k) l h = set-at 0 (s .registers .labels) j k l (h .label)
 label-after-label s (register j) (word k) l h = refl
 label-after-label s (word j) (register k) l h = refl
-label-after-label s (word j) (word k) l h = set-at (s .memory .labels) j k l (h .label)
+label-after-label s (word j) (word k) l h = set-at 0 (s .memory .labels) j k l (h .label)
 
 -- A value that is set leaves every label.
 pub label-after-value : (s : State) (x y : Location) (v : ℕ) → labelAt (written s (value x v)) y ≡ labelAt s y

@@ -14,7 +14,8 @@ use Rattle.model.specs.Numbers.{letterV, letterX}
 use Rattle.model.specs.declared.Fixed.{Fixed}
 use Rattle.model.specs.Record.{Bank, State, inUpcall}
 use Rattle.model.specs.Word.{Op, immediate, arithmetic, load as loadWord, store, branch, jump, readClock, setLabel, setPair, upcall, endUpcall, gateCall, gateReturn, halt, raise, relabel}
-use Rattle.model.specs.Ops.{isLabel, noGate, p, La, Lb, Rb}
+use Rattle.model.specs.WellFormed.{noGate}
+use Rattle.model.specs.Ops.{isLabel, p, La, Lb, Rb}
 use Rattle.model.specs.Step.{Fetched, failed, fetched, fetch, isCarried, decide, step, steps}
 use Rattle.model.specs.Load.{Loading, load}
 use Rattle.model.specs.Listing.{line}

@@ -1,6 +1,6 @@
 -- What the definitions are held against: the starred facts of document 01, "Firings to check", and behind them facts of
--- divisions, as one table, each row a test that proofs/Facts.antt has the checker compute; and document 01's own rule for
--- the ticks of op 8, which proofs/Multiply.antt proves of every state.
+-- divisions and of gates whose pair isn't valid, as one table, each row a test that proofs/Facts.antt has the checker
+-- compute; and document 01's own rule for the ticks of op 8, which proofs/Multiply.antt proves of every state.
 -- Assumes nothing.
 use Prim.Native.Nat.{ℕ, zero, suc, _+_, _-_, _*_, _/_, _%_, _^_}
 use mathlib.Core.Bool.{Bool, true, not, _&&_, cond}
@@ -8,12 +8,21 @@ use mathlib.Core.List.{List, [], _∷_}
 use lib.Dec.{eqb}
 use lib.ListN.{replicate}
 use Rattle.labels.specs.Label.{flows, join, meet, uncompromised, mayRaise, mayRelabel, lowest}
+use Rattle.causes.specs.Causes.{numberOf}
+use Rattle.causes.specs.Tests.{firstRefusal}
 use Rattle.model.specs.declared.Pair.{Pair}
+use Rattle.model.specs.declared.CallGate.{CallGate}
 use Rattle.model.specs.declared.Call.the-variants.{Empty}
-use Rattle.model.specs.Record.{State, isEmpty, newest, valueAt, register}
+use Rattle.model.specs.declared.format.Line.{Line}
+use Rattle.model.specs.declared.format.Line.the-variants.{G, R}
+use Rattle.model.specs.declared.judging.Last.{Last}
+use Rattle.model.specs.Record.{State, register, valueAt, machineOf, isEmpty, isGate, newest}
 use Rattle.model.specs.Word.{multiply}
-use Rattle.model.specs.Ops.{significantBits, arithmeticTicks, noGate}
-use Rattle.model.specs.Step.{step}
+use Rattle.model.specs.WellFormed.{noGate, wellFormed}
+use Rattle.model.specs.Ops.{significantBits, arithmeticTicks}
+use Rattle.model.specs.Step.{entered, step}
+use Rattle.model.specs.Load.{lineTests, behindHeader, lastOf}
+use Rattle.model.specs.PairTest.{stepTested}
 
 -- ---- a state to try an op in
 
@@ -90,9 +99,46 @@ divides op x y v =
     let s = step (machine x y 0 0 (wordOf op 3 1 (2 * 2 ^ 12)) 0) in
     eqb (valueAt s (register 3)) v && eqb (s .control .clock) 44 && eqb (s .control .pc) 1
 
+-- ---- gates
+
+-- A gate at pc 5 whose pair is valid: 240 flows to 0.
+abbrev pub validGate : CallGate
+validGate = record { entry = 5; pair = record { pc = lowest; timing = 0 } }
+
+-- One with that pair turned round, which isn't valid.
+abbrev pub invalidGate : CallGate
+invalidGate = record { entry = 5; pair = record { pc = 0; timing = lowest } }
+
+-- A machine at op 20 for gate 0, with so many of these two gates. Its pc label is 0, to which the labels of both flow.
+abbrev pub atGate : ℕ → CallGate → CallGate → State
+atGate count gate₀ gate₁ =
+    let s = machine 0 0 0 0 (wordOf 20 0 0 0) 0 in
+    record {
+      fixed = record { size = 8; limit = 100; errorpc = 7; count = count; gates = gate₀ ∷ gate₁ ∷ replicate 6 noGate };
+      control = entered (s .control) 10 0 (record { pc = 0; timing = 0 });
+      registers = s .registers;
+      memory = s .memory;
+    }
+
+-- The record of a state is well-formed.
+abbrev pub isFit : State → Bool
+isFit s = wellFormed (machineOf s)
+
+-- A step of such a machine led here that took the call.
+abbrev pub taken : State → Bool
+taken s = isGate (newest (s .control)) && eqb (s .control .pc) 5 && eqb (s .control .clock) 14
+
+-- One that passed it by, in the same ticks.
+abbrev pub passedBy : State → Bool
+passedBy s = isEmpty (newest (s .control)) && eqb (s .control .pc) 1 && eqb (s .control .clock) 14
+
+-- The number of a line's refusal in a machine of size 8 with so many gates, or 0.
+abbrev pub refusalOf : ℕ → Last → Line → ℕ
+refusalOf count last l = numberOf (firstRefusal (lineTests 8 count last l))
+
 -- ---- the table
 
--- The starred facts, and behind them those of divisions.
+-- The starred facts, and behind them those of divisions and of gates.
 abbrev pub facts : List Bool
 facts =
     -- 255 to 15 flows; 255 to 0 doesn't
@@ -131,6 +177,28 @@ facts =
     ∷ divides 24 17 5 2
     ∷ divides 23 17 0 (2 ^ 32 - 1)
     ∷ divides 24 17 0 17
+    -- a gate whose pair isn't valid: the record isn't fit; the step takes the call, and with the test it passed it by
+    ∷ not (isFit (atGate 1 invalidGate noGate))
+    ∷ taken (step (atGate 1 invalidGate noGate))
+    ∷ passedBy (stepTested (atGate 1 invalidGate noGate))
+    -- a gate whose pair is valid: the record is fit, and both take the call
+    ∷ isFit (atGate 1 validGate noGate)
+    ∷ taken (step (atGate 1 validGate noGate))
+    ∷ taken (stepTested (atGate 1 validGate noGate))
+    -- of two gates the second counts too; what stands in the slots behind the last gate doesn't
+    ∷ not (isFit (atGate 2 validGate invalidGate))
+    ∷ isFit (atGate 1 validGate invalidGate)
+    ∷ isFit (atGate 0 invalidGate invalidGate)
+    -- a register that holds 2^33, which no type of the code lets it: the record is fit, and after an upcall of so many
+    -- ticks it isn't
+    ∷ isFit (trial (2 ^ 33) end)
+    ∷ not (isFit (step (trial (2 ^ 33) end)))
+    -- a G line with the pair 1, 1 is 13; behind an R line it is 4, with the label 256 or as the ninth it is 3
+    ∷ eqb (refusalOf 7 behindHeader (G 0 240 240)) 0
+    ∷ eqb (refusalOf 7 behindHeader (G 0 1 1)) 13
+    ∷ eqb (refusalOf 7 (lastOf (R 1 240 0)) (G 0 1 1)) 4
+    ∷ eqb (refusalOf 7 behindHeader (G 0 1 256)) 3
+    ∷ eqb (refusalOf 8 behindHeader (G 0 1 1)) 3
     ∷ []
 
 -- Every test of a list passes.

@@ -1,2 +1,2 @@
--- What laws cite, and no definition of the machine and no theorem does.
+-- What laws cite, and of the statements PairTest's. No definition of the machine does, nor does the theorem.
 pub mod Typed

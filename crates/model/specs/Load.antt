@@ -1,14 +1,15 @@
--- Loading a text: document 01, "Text", its first paragraph, the refusals 1 to 6 of its table and their order; and 9, of
--- register 0. A refusal leaves the lent words and labels; an accepted text sets all that lie below the size.
+-- Loading a text: document 01, "Text", its first paragraph, the refusals 1 to 6 of its table and their order; 9, of
+-- register 0; and 13, of a gate's pair. A refusal leaves the lent words and labels; an accepted text sets all that lie
+-- below the size.
 -- Assumes nothing.
 use Prim.Native.Nat.{ℕ, _+_}
 use mathlib.Core.Bool.{Bool, false, not, _&&_, _||_}
 use mathlib.Core.List.{List, [], _∷_, _++_}
 use lib.Dec.{leb, ltb, eqb}
 use lib.ListN.{length, drop, set, replicate}
-use Rattle.labels.specs.Label.{lowest}
+use Rattle.labels.specs.Label.{validPair, lowest}
 use Rattle.causes.specs.declared.Cause.{Cause}
-use Rattle.causes.specs.declared.Cause.the-variants.{TextLength, MalformedLine, OutOfRange, OutOfOrder, InvalidPair, ShortMemory, ZeroRegister}
+use Rattle.causes.specs.declared.Cause.the-variants.{TextLength, MalformedLine, OutOfRange, OutOfOrder, InvalidPair, ShortMemory, ZeroRegister, GatePair}
 use Rattle.causes.specs.declared.Outcome.{Outcome}
 use Rattle.causes.specs.declared.Outcome.the-variants.{Done, Refused}
 use Rattle.causes.specs.Tests.{unless, Test, _orElse_, firstRefusal}
@@ -21,8 +22,8 @@ use Rattle.model.specs.declared.judging.Kind.the-variants.{HeaderLine, G
 use Rattle.model.specs.declared.judging.Last.{Last}
 use Rattle.model.specs.declared.judging.Header.{Header}
 use Rattle.model.specs.Record.{Bank, Machine}
-use Rattle.model.specs.WellFormed.{isValid, sizeInRange, limitInRange, lentWhole}
-use Rattle.model.specs.Ops.{writable, isLabel, noGate}
+use Rattle.model.specs.WellFormed.{isValid, sizeInRange, limitInRange, noGate, lentWhole}
+use Rattle.model.specs.Ops.{writable, isLabel}
 use Rattle.model.specs.Text.{readLine, lines}
 
 -- ---- the record that a text describes
@@ -113,13 +114,14 @@ headerTests h m =
     ∷ lentWhole (h .size) m orElse ShortMemory
     ∷ []
 
--- The tests of a line behind it, for a machine of this size with so many gates so far: 2, 4 (kind), 3, 4 (rising), 9
--- (register 0). No second M line is in order.
+-- The tests of a line behind it, for a machine of this size with so many gates so far: 2, 4 (kind), 3, 4 (rising), and
+-- last 9 (register 0) or 13 (a gate's pair). No second M line is in order.
 unfoldable pub lineTests : ℕ → ℕ → Last → Line → List Test
 lineTests size count last (M a b c d e f) = false orElse OutOfOrder ∷ []
 lineTests size count last (G pc p t) =
     inOrder last GateLine orElse OutOfOrder
     ∷ gateInRange count pc p t orElse OutOfRange
+    ∷ validPair p t orElse GatePair
     ∷ []
 lineTests size count last (R k l v) =
     inOrder last RegisterLine orElse OutOfOrder

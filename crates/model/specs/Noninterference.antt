@@ -14,7 +14,8 @@ use Rattle.causes.specs.Causes.{isDone}
 use Rattle.model.specs.declared.Request.{Request}
 use Rattle.model.specs.declared.Request.the-variants.{Step, Run, RunTo}
 use Rattle.model.specs.Record.{Bank, State, Location, machineOf, stateOf, lent, labelAt}
-use Rattle.model.specs.Ops.{Change, write, goto, enter, openUpcall, openGate, closeGate, stop, noGate}
+use Rattle.model.specs.WellFormed.{noGate}
+use Rattle.model.specs.Ops.{Change, write, goto, enter, openUpcall, openGate, closeGate, stop}
 use Rattle.model.specs.Step.{Decision, rest, spend, stall, close, carry, running, decide, step, finishesBy}
 use Rattle.model.specs.Answer.{Answer, answerOf}
 use Rattle.model.specs.Load.{Loading, load}

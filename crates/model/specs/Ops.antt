@@ -11,7 +11,7 @@ use Rattle.model.specs.Numbers.{zeroRegister}
 use Rattle.model.specs.declared.Pair.{Pair}
 use Rattle.model.specs.declared.CallGate.{CallGate}
 use Rattle.model.specs.Record.{State, Location, register, word, valueAt, labelAt, isEmpty, isGate, pairOf, newest, inUpcall}
-use Rattle.model.specs.WellFormed.{isValid}
+use Rattle.model.specs.WellFormed.{isValid, noGate}
 use Rattle.model.specs.Word.{Arithmetic, add, subtract, and, or, xor, less, multiply, divide, remainder, Comparison, equal, below, Rule, raise, relabel, Op, immediate, arithmetic, load, store, branch, jump, readClock, setLabel, setPair, upcall, endUpcall, gateCall, gateReturn, halt, aField, bField, cField, dField, nField, compute}
 
 -- ---- effects
@@ -106,10 +106,6 @@ abbrev pub allows : Rule → ℕ → ℕ → ℕ → Bool
 allows raise p l m = mayRaise p l m
 allows relabel p l m = mayRelabel p l m
 
--- No gate: what stands for the gate of a number that does not exist.
-abbrev pub noGate : CallGate
-noGate = record { entry = 0; pair = record { pc = 0; timing = 0 } }
-
 -- ---- the table, for the word w that is carried out in the state s
 module _ (s : State) (w : ℕ) where
   -- The current pc label.
@@ -179,10 +175,11 @@ module _ (s : State) (w : ℕ) where
   abbrev pub gate : CallGate
   gate = getD (s .fixed .gates) Rb noGate
 
-  -- Gate call: no open call; the gate number exists; the gate's pair is valid and both its labels flow to p; Lb flows to p.
+  -- Gate call: no open call; the gate number exists; both labels of the gate's pair flow to p; Lb flows to p. That the
+  -- pair is valid is not tested: in a fit record each gate's is.
   unfoldable pub mayCallGate : Bool
   mayCallGate =
-      isEmpty (newest (s .control)) && ltb Rb (s .fixed .count) && isValid (gate .pair) && flows (gate .pair .pc) p
+      isEmpty (newest (s .control)) && ltb Rb (s .fixed .count) && flows (gate .pair .pc) p
       && flows (gate .pair .timing) p && flows Lb p
 
   -- The pair that the newest call keeps.

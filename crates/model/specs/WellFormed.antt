@@ -1,12 +1,14 @@
 -- When a record is well-formed (the paper's fit): document 01, "The record", its last paragraph.
 -- Assumes nothing.
-use Prim.Native.Nat.{ℕ, _^_}
+use Prim.Native.Nat.{ℕ, zero, suc, _^_}
 use mathlib.Core.Bool.{Bool, true, false, _&&_, cond}
+use mathlib.Core.List.{List}
 use lib.Dec.{leb, ltb, eqb}
 use lib.ListN.{length, getD}
 use Rattle.labels.specs.Label.{flows, validPair, lowest}
 use Rattle.model.specs.Numbers.{mostWords, mostTicks, mostGates, zeroRegister, stalled, unknownOp}
 use Rattle.model.specs.declared.Pair.{Pair}
+use Rattle.model.specs.declared.CallGate.{CallGate}
 use Rattle.model.specs.declared.Fixed.{Fixed}
 use Rattle.model.specs.declared.Control.{Control}
 use Rattle.model.specs.declared.Call.{Call}
@@ -59,12 +61,22 @@ isBlank label value = eqb value 0 && eqb label lowest
 unfoldable pub zeroReads : Bank → Bool
 zeroReads b = isBlank (getD (b .labels) zeroRegister 0) (getD (b .values) zeroRegister 0)
 
--- The record is fit: the ranges hold, the clock is at most the limit, the current pair and the calls are fit, and register
--- 0 reads 0.
+-- No gate: what stands for the gate of a number that does not exist.
+abbrev pub noGate : CallGate
+noGate = record { entry = 0; pair = record { pc = 0; timing = 0 } }
+
+-- The pairs of the first n gates are valid. What stands in the slots behind them is not asked about.
+unfoldable pub gatesValid : List CallGate → ℕ → Bool
+gatesValid gates zero = true
+gatesValid gates (suc n) = gatesValid gates n && isValid (getD gates n noGate .pair)
+
+-- The record is fit: the ranges hold, the clock is at most the limit, the current pair and the calls are fit, register 0
+-- reads 0, and the pairs of its gates are valid.
 unfoldable pub wellFormed : Machine → Bool
 wellFormed r =
     fixedInRange (r .fixed) && endInRange (r .control) && leb (r .control .clock) (r .fixed .limit) && isValid (r .control .pair)
     && callsWellFormed (r .control) (r .control .first) (r .control .second) && zeroReads (r .registers)
+    && gatesValid (r .fixed .gates) (r .fixed .count)
 
 -- The lent words and the lent labels are each at least as long as the size.
 unfoldable pub lentWhole : ℕ → Bank → Bool

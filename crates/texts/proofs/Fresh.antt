@@ -171,7 +171,7 @@ module _ (r : Machine) (m n : Bank) (a : Agree (r .fixed .size) m n) where
   written-agree x y z u (sets {x = word k} {v = v} h o p lt) =
       record {
         values = λ j g.
-            rw (set-at (m .values) k j v (lt-of-lt-of-le h x), set-at (n .values) k j v (lt-of-lt-of-le h z), a .values j g);
+            rw (set-at 0 (m .values) k j v (lt-of-lt-of-le h x), set-at 0 (n .values) k j v (lt-of-lt-of-le h z), a .values j g);
         labels = a .labels;
       }
   written-agree x y z u (marks {x = register k} h o p l lt) = a
@@ -179,7 +179,7 @@ module _ (r : Machine) (m n : Bank) (a : Agree (r .fixed .size) m n) where
       record {
         values = a .values;
         labels = λ j g.
-            rw (set-at (m .labels) k j l (lt-of-lt-of-le h y), set-at (n .labels) k j l (lt-of-lt-of-le h u), a .labels j g);
+            rw (set-at 0 (m .labels) k j l (lt-of-lt-of-le h y), set-at 0 (n .labels) k j l (lt-of-lt-of-le h u), a .labels j g);
       }
 
 -- ---- a run
@@ -323,14 +323,14 @@ line-agree size (W k l v) m n e x y a =
     record {
       values = λ j g.
           rw (
-            set-at (m .values) k j v (lt-of-lt-of-le h (x .values)),
-            set-at (n .values) k j v (lt-of-lt-of-le h (y .values)),
+            set-at 0 (m .values) k j v (lt-of-lt-of-le h (x .values)),
+            set-at 0 (n .values) k j v (lt-of-lt-of-le h (y .values)),
             a .values j g,
           );
       labels = λ j g.
           rw (
-            set-at (m .labels) k j l (lt-of-lt-of-le h (x .labels)),
-            set-at (n .labels) k j l (lt-of-lt-of-le h (y .labels)),
+            set-at 0 (m .labels) k j l (lt-of-lt-of-le h (x .labels)),
+            set-at 0 (n .labels) k j l (lt-of-lt-of-le h (y .labels)),
             a .labels j g,
           );
     }

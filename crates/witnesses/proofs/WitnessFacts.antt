@@ -15,7 +15,8 @@ use Rattle.model.specs.declared.Call.{Call}
 use Rattle.model.specs.declared.Call.the-variants.{Empty, Gate, Upcall}
 use Rattle.labels.specs.Principals.{label, meet, highest}
 use Rattle.model.specs.Record.{State, Location, register, word}
-use Rattle.model.specs.Ops.{noGate, table}
+use Rattle.model.specs.WellFormed.{noGate}
+use Rattle.model.specs.Ops.{table}
 use Rattle.model.specs.Step.{running, step, steps}
 use Rattle.model.specs.Answer.{answer}
 use Rattle.model.specs.Text.{isDigit, digits, decimalFrom, wellWritten, number, field, readFields, fieldCount, lineOf, readLine, linesIn, lines}

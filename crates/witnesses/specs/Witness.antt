@@ -17,7 +17,8 @@ use Rattle.model.specs.declared.Control.{Control}
 use Rattle.model.specs.declared.Call.{Call}
 use Rattle.model.specs.declared.Call.the-variants.{Empty, Gate, Upcall}
 use Rattle.model.specs.Record.{Bank, State, Location, register, word, machineOf, valueAt, labelAt, isEmpty, inUpcall}
-use Rattle.model.specs.Ops.{noGate, mayCallGate}
+use Rattle.model.specs.WellFormed.{noGate}
+use Rattle.model.specs.Ops.{mayCallGate}
 use Rattle.model.specs.Step.{running, decide, moved, opened, ended, step}
 use Rattle.model.specs.Load.{load}
 use Rattle.model.specs.Listing.{line, entryLines}

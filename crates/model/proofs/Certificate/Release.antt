@@ -17,7 +17,8 @@ use Rattle.model.specs.declared.Call.{Call}
 use Rattle.model.specs.declared.Call.the-variants.{Empty, Gate, Upcall}
 use Rattle.model.specs.Record.{State, Location, register, word, labelAt, isEmpty, isUpcall, newest, inUpcall}
 use Rattle.model.specs.Word.{Rule, raise, relabel, Op, immediate, arithmetic, load, store, branch, jump, readClock, setLabel, setPair, upcall, endUpcall, gateCall, gateReturn, halt, aField}
-use Rattle.model.specs.Ops.{writable, Write, nothing, value, label, Change, write, goto, Effect, does, ends, Row, isLabel, allows, noGate, La, Lb, Rb, table}
+use Rattle.model.specs.WellFormed.{noGate}
+use Rattle.model.specs.Ops.{writable, Write, nothing, value, label, Change, write, goto, Effect, does, ends, Row, isLabel, allows, La, Lb, Rb, table}
 use Rattle.model.specs.Step.{Fetched, failed, fetched, fetch, Decision, rest, spend, stall, close, carry, fault, passed, attempt, plan, beyondLimit, inLimit, running, decide, isCarried, causeAllowed, causeWrite, changeWrite, writeOf, written, controlAfter, changed, step}
 use Rattle.model.specs.Seen.{within, exists}
 use Rattle.model.specs.Noninterference.{downgrades, callsGate, gateCallsIn, timedFromOutside, StepProvisos}

@@ -13,7 +13,7 @@ use Rattle.model.specs.declared.Fixed.{Fixed}
 use Rattle.model.specs.declared.Control.{Control}
 use Rattle.model.specs.declared.Call.{Call}
 use Rattle.model.specs.Record.{State, isEmpty, endTickOf, pairOf, newest, inUpcall}
-use Rattle.model.specs.Ops.{noGate}
+use Rattle.model.specs.WellFormed.{noGate}
 use Rattle.model.specs.Step.{endTick, running, withControl, step, steps}
 use Rattle.model.specs.Seen.{within, seen, unseen, seenControl, LowEquivalent}
 use Rattle.model.specs.Noninterference.{StepProvisos, timedFromOutside, SameSetting}

@@ -3,7 +3,7 @@
 -- one control, and states that are alike.
 -- Assumes nothing.
 use Prim.Native.Nat.{ℕ, _+_, _<_, _/_, _%_, _^_}
-use mathlib.Core.Path.{_≡_, refl, sym, ap, ap₂, _∙_, subst}
+use mathlib.Core.Path.{_≡_, refl, sym, ap, _∙_, subst}
 use mathlib.Core.Logic.{_⊎_, inl, inr, ⊎-elim}
 use mathlib.Core.Bool.{Bool, true, false, _&&_, cond}
 use native.Mathlib.Nat.{mod-lt}
@@ -16,7 +16,8 @@ use Rattle.labels.proofs.Laws.{join-flows}
 use Rattle.model.specs.declared.Control.{Control}
 use Rattle.model.specs.Record.{State, Location, register, word, valueAt, labelAt, inUpcall}
 use Rattle.model.specs.Word.{Arithmetic, add, subtract, and, or, xor, less, multiply, divide, remainder, Op, immediate, arithmetic, load, store, branch, jump, readClock, setLabel, setPair, upcall, endUpcall, gateCall, gateReturn, halt, aField, bField, cField, dField, nField, decode, opField}
-use Rattle.model.specs.Ops.{Write, nothing, value, label, write, goto, enter, openUpcall, openGate, closeGate, stop, Effect, does, ends, Row, row, noGate, newPairAllowed, mayUpcall, mayCallGate, mayReturn, multiplyCount, multiplyTicks, arithmeticTicks, Rb, Rc, visible, gate, table}
+use Rattle.model.specs.WellFormed.{noGate}
+use Rattle.model.specs.Ops.{Write, nothing, value, label, write, goto, enter, openUpcall, openGate, closeGate, stop, Effect, does, ends, Row, row, newPairAllowed, mayUpcall, mayCallGate, mayReturn, multiplyCount, multiplyTicks, arithmeticTicks, Rb, Rc, visible, gate, table}
 use Rattle.model.specs.Step.{Fetched, failed, fetched, known, fetchAllowed, fetch, Decision, rest, spend, stall, close, carry, endTick, finish, fault, attempt, inTime, plan, beyondLimit, inLimit, running, decide, causeAllowed, causeWrite, writeOf, written, withControl, changed, controlAfter, apply, step}
 use Rattle.model.specs.Seen.{within, exists}
 use Rattle.model.specs.Noninterference.{SameSetting, StepProvisos, downgrades}
@@ -157,7 +158,7 @@ module _ {ℓ : ℕ} {c : Control} {a b : State} (h : Together ℓ c a b) (w : �
       let k = simp and-iff at e in
       let lb = equal (h .pc) (register (bField w)) (b-exists one w) (k .1) in
       let lg : gate one w ≡ getD (b .fixed .gates) (Rb one w) noGate =
-      h .setting .gates (Rb one w) (ltb-true _ _ (k .0 .0 .0 .0 .1)) in
+      h .setting .gates (Rb one w) (ltb-true _ _ (k .0 .0 .0 .1)) in
       let count : a .fixed .count ≡ b .fixed .count = h .setting .count in rw (lg, lb .0, lb .1, count)
   row-equal gateReturn e v = refl
   row-equal halt e v = refl

@@ -13,7 +13,7 @@ use Rattle.model.specs.declared.Control.{Control}
 use Rattle.model.specs.declared.Call.{Call}
 use Rattle.model.specs.Numbers.{mostGates, registerCount, valueCount}
 use Rattle.model.specs.Record.{Bank, Machine, State, returnOf, pairOf}
-use Rattle.model.specs.Ops.{noGate}
+use Rattle.model.specs.WellFormed.{noGate}
 
 -- The first n numbers of the list are below k.
 abbrev pub Below : ℕ → ℕ → List ℕ → Type 0

@@ -6,7 +6,7 @@ use mathlib.Core.Path.{_≡_, refl}
 use lib.ListN.{length}
 use borrow.Author.Needs.{needs}
 use Rattle.model.specs.Numbers.{mostGates}
-use Rattle.model.specs.Ops.{noGate}
+use Rattle.model.specs.WellFormed.{noGate}
 use Rattle.encoder.specs.Places.{firstGate}
 use Rattle.encoder.specs.Layout.{gatesWords}
 use Rattle.encoder.proofs.Laws.{gate-rows}
