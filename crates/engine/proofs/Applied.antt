@@ -8,7 +8,6 @@ use native.Mathlib.Omega.{arith}
 use lib.ListN.{getD, set}
 use Rattle.labels.specs.Label.{flows}
 use Rattle.model.specs.declared.Pair.{Pair}
-use Rattle.model.specs.declared.CallGate.{CallGate}
 use Rattle.model.specs.declared.Control.{Control}
 use Rattle.model.specs.declared.Call.{Call}
 use Rattle.model.specs.Numbers.{mostWords, registerCount}

@@ -13,6 +13,7 @@ use model::numbers::ZERO_REGISTER;
 use wellformed::calls_well_formed;
 use wellformed::end_in_range;
 use wellformed::fixed_in_range;
+use wellformed::gates_valid;
 ghost use mathlib.Core.Path.{_≡_};
 ghost use Rattle.model.specs.Record.{lent};
 ghost use Rattle.model.specs.WellFormed.{isBlank, wellFormed, lentWhole};
@@ -99,11 +100,15 @@ impl Machine {
         let second = control.second;
         let values = self.values;
         let labels = self.labels;
-        fixed_in_range(fixed.size, fixed.limit, fixed.count)
-            & end_in_range(control.end, control.why)
+        let gates = fixed.gates;
+        if !fixed_in_range(fixed.size, fixed.limit, fixed.count) {
+            return false;
+        }
+        end_in_range(control.end, control.why)
             & (control.clock <= fixed.limit)
             & Label(pair.pc).is_valid_pair(Label(pair.timing))
             & calls_well_formed(pair.pc, pair.timing, control.clock, first, second)
             & is_blank(labels[ZERO_REGISTER], values[ZERO_REGISTER])
+            & gates_valid(gates, fixed.count)
     }
 }

@@ -1,23 +1,25 @@
 // Whether a record is well-formed.
 use labels::Label;
 use model::Call;
+use model::CallGate;
 use model::Pair;
 use model::numbers::MOST_GATES;
 use model::numbers::MOST_TICKS;
 use model::numbers::MOST_WORDS;
 use model::numbers::STALLED;
 use model::numbers::UNKNOWN_OP;
+ghost use Prim.Native.Nat.{_≤_};
 ghost use mathlib.Core.Path.{_≡_};
 ghost use mathlib.Core.Bool.{_&&_, cond};
 ghost use lib.Dec.{leb, eqb};
 ghost use Rattle.model.specs.declared.Control.{Control};
 ghost use Rattle.model.specs.Numbers.{mostGates, stalled, unknownOp};
 ghost use Rattle.model.specs.Record.{isEmpty};
-ghost use Rattle.model.specs.WellFormed.{sizeInRange, limitInRange, upcallWellFormed, callsWellFormed};
+ghost use Rattle.model.specs.WellFormed.{sizeInRange, limitInRange, upcallWellFormed, callsWellFormed, gatesValid};
 ghost use Rattle.machine.specs.Inner.WellFormed.{controlAt, overGate};
 
 // The ranges of what no step changes.
-pub(crate) fn fixed_in_range(size: u32, limit: u32, count: u32) -> bool
+pub(in crate) fn fixed_in_range(size: u32, limit: u32, count: u32) -> bool
     ensures { λ r. ⌜ r ≡ (sizeInRange size && limitInRange limit && leb count mostGates) ⌝ }
 {
     let size_fits = (1 <= size) & (size <= MOST_WORDS);
@@ -26,7 +28,7 @@ pub(crate) fn fixed_in_range(size: u32, limit: u32, count: u32) -> bool
 }
 
 // End and why.
-pub(crate) fn end_in_range(end: u8, why: u8) -> bool
+pub(in crate) fn end_in_range(end: u8, why: u8) -> bool
     ensures { λ r. ⌜ r ≡ (leb end stalled && cond (eqb end stalled) (leb 1 why && leb why unknownOp) (eqb why 0)) ⌝ }
 {
     if end <= STALLED {
@@ -77,7 +79,7 @@ fn over_gate(valid: bool, p: u8, t: u8, clock: u32, second: Call) -> bool
 }
 
 // The two places for open calls.
-pub(crate) fn calls_well_formed(p: u8, t: u8, clock: u32, first: Call, second: Call) -> bool
+pub(in crate) fn calls_well_formed(p: u8, t: u8, clock: u32, first: Call, second: Call) -> bool
     ensures { λ r. ⌜ ((c : Control) → r ≡ callsWellFormed (controlAt c p t clock) first second) ⌝ }
 {
     match first {
@@ -91,4 +93,21 @@ pub(crate) fn calls_well_formed(p: u8, t: u8, clock: u32, first: Call, second: C
         ),
         Call::Upcall(_, q, e) => is_absent(second) & upcall_well_formed(p, t, clock, q, e),
     }
+}
+
+// Whether the pairs of so many gates are valid. The slots behind them aren't looked at.
+pub(in crate) fn gates_valid(gates: [CallGate; MOST_GATES as usize], count: u32) -> bool
+    requires { ⌜ count ≤ mostGates ⌝ }
+    ensures { λ r. ⌜ r ≡ gatesValid gates count ⌝ }
+{
+    let mut valid = true;
+    let mut i = 0u32;
+    while i < count {
+        let at = i as usize;
+        let gate = gates[at];
+        let pair = gate.pair;
+        valid = valid & Label(pair.pc).is_valid_pair(Label(pair.timing));
+        i += 1;
+    }
+    valid
 }

@@ -110,7 +110,7 @@ pub fn header_verdict(header: Header, words: usize, labels: usize) -> Outcome
     Outcome::Done
 }
 
-// The verdict on a G line behind so many gates: its kind, its ranges.
+// The verdict on a G line behind so many gates: its kind, its ranges, its pair.
 fn gate_verdict(count: u32, last: Last, pc: u64, p: u64, t: u64) -> Outcome
     ensures { λ r. ⌜ r ≡ firstRefusal (gateTests count last pc p t) ⌝ }
 {
@@ -119,6 +119,9 @@ fn gate_verdict(count: u32, last: Last, pc: u64, p: u64, t: u64) -> Outcome
     }
     if !gate_in_range(count, pc, p, t) {
         return Outcome::Refused(Cause::OutOfRange);
+    }
+    if !Label(p as u8).is_valid_pair(Label(t as u8)) {
+        return Outcome::Refused(Cause::GatePair);
     }
     Outcome::Done
 }

@@ -12,7 +12,8 @@ use Rattle.model.specs.declared.Call.{Call}
 use Rattle.model.specs.Numbers.{mostWords, registerCount, outsideMemory, unreadable, byFailure}
 use Rattle.model.specs.Record.{State, register, isEmpty, newest, endTickOf}
 use Rattle.model.specs.Word.{opField, decode}
-use Rattle.model.specs.Ops.{nothing, label, Change, write, goto, enter, openUpcall, openGate, closeGate, stop, isLabel, noGate}
+use Rattle.model.specs.WellFormed.{noGate}
+use Rattle.model.specs.Ops.{nothing, label, Change, write, goto, enter, openUpcall, openGate, closeGate, stop, isLabel}
 use Rattle.model.specs.Step.{Decision, spend, stall, close, carry, known, endTick, fault, plan, inLimit}
 use Rattle.engine.specs.declared.steps.common.Stop.{Stop}
 use Rattle.engine.specs.declared.steps.common.Stop.the-variants.{Out, Late, Outside, Unreadable, Failed, Rest}
@@ -91,12 +92,12 @@ pub record Timely (up : Bool) (e clock ticks : ℕ) (act : Act) (r : Verdict) : 
 abbrev pub allowed : ℕ → ℕ → ℕ → ℕ → ℕ → Bool
 allowed x y lb lc p = isLabel x && isLabel y && validPair x y && flows lb p && flows lc p
 
--- The check of op 20: no call is open that bars it, x is the number of a gate, its pair is valid and flows to p, and so does
--- lb.
+-- The check of op 20: no call is open that bars it, x is the number of a gate, both labels of its pair flow to p, and so
+-- does lb.
 abbrev pub gateAllowed : ℕ → ℕ → ℕ → Call → ℕ → List CallGate → Bool
 gateAllowed x lb p call count gates =
     let g = getD gates x noGate in
-    isEmpty call && ltb x count && validPair (g .pair .pc) (g .pair .timing) && flows (g .pair .pc) p && flows (g .pair .timing) p && flows lb p
+    isEmpty call && ltb x count && flows (g .pair .pc) p && flows (g .pair .timing) p && flows lb p
 
 -- The state s where the hot loop stopped, with what the functions here are given in its place.
 abbrev pub stoppedAt : State → ℕ → ℕ → ℕ → List CallGate → ℕ → ℕ → ℕ → ℕ → List ℕ → List ℕ → State

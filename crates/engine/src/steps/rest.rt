@@ -26,11 +26,12 @@ ghost use mathlib.Core.Path.{_≡_};
 ghost use mathlib.Core.Bool.{true, false, not, cond, _&&_};
 ghost use lib.Dec.{eqb};
 ghost use lib.ListN.{getD};
-ghost use Rattle.labels.specs.Label.{labelCount, flows, join, meet, validPair, mayRaise, mayRelabel};
+ghost use Rattle.labels.specs.Label.{labelCount, flows, join, meet, mayRaise, mayRelabel};
 ghost use Rattle.model.specs.Numbers.{mostWords, mostTicks, mostGates, registerCount};
 ghost use Rattle.model.specs.Record.{isGate, pairOf, register};
 ghost use Rattle.model.specs.Word.{opField, aField, bField, cField, dField};
-ghost use Rattle.model.specs.Ops.{writable, write, goto, label, enter, openUpcall, openGate, closeGate, isLabel, noGate};
+ghost use Rattle.model.specs.WellFormed.{noGate};
+ghost use Rattle.model.specs.Ops.{writable, write, goto, label, enter, openUpcall, openGate, closeGate, isLabel};
 ghost use Rattle.model.specs.Step.{close, stall, carry};
 ghost use Rattle.engine.specs.Inner.Common.{Other};
 ghost use Rattle.engine.specs.Inner.Rest.{decisionOf, allowed, gateAllowed, Acts, Held, Short, Timely, Rested, Ready, Planned, Limited, Decided};
@@ -230,13 +231,12 @@ fn upcall(
 
 // ---- ops 20 and 21
 
-// Whether a gate with the pair q, u may be called.
-fn may_enter(q: u8, u: u8, lb: u8, p: u8) -> bool
-    ensures { λ r. ⌜ r ≡ (validPair q u && flows q p && flows u p && flows lb p) ⌝ }
+// Whether a gate with this pair may be called. Whether the pair is valid isn't tried: in a well-formed record each gate's is.
+fn may_enter(pair: Pair, lb: u8, p: u8) -> bool
+    ensures { λ r. ⌜ r ≡ (flows (pair .pc) p && flows (pair .timing) p && flows lb p) ⌝ }
 {
-    Label(q).is_valid_pair(Label(u))
-        & Label(q).flows_to(Label(p))
-        & Label(u).flows_to(Label(p))
+    Label(pair.pc).flows_to(Label(p))
+        & Label(pair.timing).flows_to(Label(p))
         & Label(lb).flows_to(Label(p))
 }
 
@@ -257,7 +257,7 @@ fn open_gate(
             let i = index(x);
             let gate = gates[i];
             let pair = gate.pair;
-            if may_enter(pair.pc, pair.timing, lb, p) {
+            if may_enter(pair, lb, p) {
                 return Act::OpenGate(gate.entry, pair);
             }
         }

@@ -1,6 +1,5 @@
 -- `fire::write_refusal` meets its contract: the line writer's answer, or 0 where the line didn't fit.
 -- Assumes nothing.
-use native.Mathlib.Omega.{arith}
 use borrow.Author.Needs.{needs}
 use Rattle.fire.proofs.Laws.{refusal-short, refusal-written}
 use Rattle.fire.proofs.write_refusal.Statement.{statement}

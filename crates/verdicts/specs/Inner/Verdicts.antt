@@ -2,7 +2,8 @@
 -- Assumes nothing.
 use Prim.Native.Nat.{ℕ}
 use mathlib.Core.List.{List, [], _∷_, _++_}
-use Rattle.causes.specs.declared.Cause.the-variants.{OutOfRange, OutOfOrder, ZeroRegister}
+use Rattle.labels.specs.Label.{validPair}
+use Rattle.causes.specs.declared.Cause.the-variants.{OutOfRange, OutOfOrder, ZeroRegister, GatePair}
 use Rattle.causes.specs.Tests.{Test, _orElse_}
 use Rattle.model.specs.declared.judging.Kind.{Kind}
 use Rattle.model.specs.declared.judging.Kind.the-variants.{GateLine, RegisterLine}
@@ -13,7 +14,8 @@ use Rattle.model.specs.Load.{gateInRange, entryInRange, inOrder, rising}
 
 -- Of a G line.
 abbrev pub gateTests : ℕ → Last → ℕ → ℕ → ℕ → List Test
-gateTests count last pc p t = inOrder last GateLine orElse OutOfOrder ∷ gateInRange count pc p t orElse OutOfRange ∷ []
+gateTests count last pc p t =
+    inOrder last GateLine orElse OutOfOrder ∷ gateInRange count pc p t orElse OutOfRange ∷ validPair p t orElse GatePair ∷ []
 
 -- Of an R or W line.
 abbrev pub entryTests : Kind → ℕ → Last → ℕ → ℕ → ℕ → List Test

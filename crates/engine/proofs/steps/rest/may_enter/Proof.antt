@@ -4,9 +4,6 @@ use borrow.Author.Needs.{needs}
 use Rattle.engine.proofs.steps.rest.may_enter.Statement.{statement}
 use Rattle.engine.proofs.steps.rest.may_enter.Tie as tie
 
-is-valid-pair-requires : tie.Need-is-valid-pair-requires
-is-valid-pair-requires c κs = search needs
-
 flows-to-requires : tie.Need-flows-to-requires
 flows-to-requires c κs = search needs
 
@@ -17,13 +14,12 @@ flows-to-requires-3 : tie.Need-flows-to-requires-3
 flows-to-requires-3 c κs = search needs
 
 returns : tie.Need-returns
-returns c = rw (c .before .before .before .is-valid-pair .ensures, c .before .before .flows-to .ensures, c .before .flows-to2 .ensures, c .flows-to3 .ensures)
+returns c = rw (c .before .before .flows-to .ensures, c .before .flows-to2 .ensures, c .flows-to3 .ensures)
 
 pub may-enter-spec : {M : Type 1} → statement M
 may-enter-spec =
     tie.close
     (tie.spec
-    is-valid-pair-requires
     flows-to-requires
     flows-to-requires-2
     flows-to-requires-3
