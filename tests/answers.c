@@ -1,6 +1,7 @@
 /* Calls the library on buffers that it must refuse, and sees that they are left; loads from HEX; sees that register 0
- * stays; runs to ticks, and has listed what a label sees there; has certificates made with each cause; and tries its label
- * rules on every label, beside those of document 01 as they are written here. Prints what went wrong. */
+ * stays; runs to ticks, and has listed what a label sees there; has certificates made with each cause; tries its label
+ * rules on every label, beside those of document 01 as they are written here; and tries every pair as a gate's. Prints
+ * what went wrong. */
 #include "jennydusk.h"
 
 #include <stdio.h>
@@ -61,6 +62,7 @@ static uint64_t view(const char *text, uint8_t label, uint64_t tick, size_t size
 
 static const char image[] = "M,2,1,0,240,240,5\nW,0,240,17825797\n"; /* Ra := 5, and no op behind it */
 static const char zero_line[] = "M,2,1,0,240,240,5\nR,0,240,0\n"; /* it says what register 0 is without it */
+static const char gate_line[] = "M,2,1,0,240,240,5\nG,0,1,1\n"; /* 1 is not sound */
 
 /* The table's refusals of a load; no call has written yet. */
 static void try_refused_loads(void) {
@@ -73,6 +75,8 @@ static void try_refused_loads(void) {
     expect("bad line", load("M,2,1,0,240,240,5\nW,0,240\n", SIZE, JENNYDUSK_SPAN), JENNYDUSK_MALFORMED, 2);
     expect("not rising", load("M,2,1,0,240,240,5\nW,1,240,1\nW,0,240,1\n", SIZE, JENNYDUSK_SPAN), JENNYDUSK_ORDER, 3);
     expect("line for register 0", load(zero_line, SIZE, JENNYDUSK_SPAN), JENNYDUSK_ZERO_REGISTER, 2);
+    expect("gate pair not valid", load(gate_line, SIZE, JENNYDUSK_SPAN), JENNYDUSK_GATE_PAIR, 2);
+    expect("short words before the gate", load(gate_line, SIZE - 1, JENNYDUSK_SPAN), JENNYDUSK_SHORT_MEMORY, 1);
     expect("short words", load(image, SIZE - 1, JENNYDUSK_SPAN), JENNYDUSK_SHORT_MEMORY, 1);
     expect("step of no record", step(SIZE, JENNYDUSK_SPAN), JENNYDUSK_NO_RECORD, 0);
 }
@@ -277,6 +281,7 @@ static void try_refused_views(void) {
     expect("view of a bad label", view("M,2,1,0,240,256,5\n", 240, 0, SIZE, 0), JENNYDUSK_RANGE, 1);
     expect("view of no valid pair", view("M,2,1,0,15,15,5\n", 240, 6, SIZE, ROOM), JENNYDUSK_PAIR, 1);
     expect("view of a line for register 0", view(zero_line, 240, 6, SIZE, 0), JENNYDUSK_ZERO_REGISTER, 2);
+    expect("view of a gate pair not valid", view(gate_line, 240, 6, SIZE, 0), JENNYDUSK_GATE_PAIR, 2);
     expect("view in short memory", view(store, 240, 10, SIZE - 1, 0), JENNYDUSK_SHORT_MEMORY, 1);
 }
 
@@ -345,6 +350,7 @@ static void try_refused_certificates(void) {
     expect("certify of a bad label", certify("M,2,1,0,240,256,5\n", SIZE, SIZE, span), JENNYDUSK_RANGE, 1);
     expect("certify out of order", certify("M,2,1,0,240,240,5\nW,1,240,1\nW,0,240,1\n", SIZE, SIZE, span), JENNYDUSK_ORDER, 3);
     expect("certify of a line for register 0", certify(zero_line, SIZE, SIZE, span), JENNYDUSK_ZERO_REGISTER, 2);
+    expect("certify of a gate pair not valid", certify(gate_line, SIZE, SIZE, span), JENNYDUSK_GATE_PAIR, 2);
     expect("certify of no valid pair", certify("M,2,1,0,15,15,5\n", SIZE, SIZE, span), JENNYDUSK_PAIR, 1);
     expect("certify in short words", certify(image, SIZE - 1, SIZE, span), JENNYDUSK_SHORT_MEMORY, 1);
     expect("certify in short labels", certify(image, SIZE, SIZE - 1, span), JENNYDUSK_SHORT_MEMORY, 1);
@@ -446,6 +452,79 @@ static void try_labels(void) {
         try_pair(both / LABELS, both % LABELS);
 }
 
+/* ---- gates: "A fit record now also has only valid gates." */
+
+#define GATES 8
+
+/* A record that isn't fit is refused by every call, before memory and output that are too short. */
+static void expect_unfit(void) {
+    expect("step with a bad gate", step(0, JENNYDUSK_SPAN), JENNYDUSK_NO_RECORD, 0);
+    expect("run with a bad gate", run(JENNYDUSK_SPAN), JENNYDUSK_NO_RECORD, 0);
+    expect("run with a bad gate to a tick", run_to(9, 0, JENNYDUSK_SPAN), JENNYDUSK_NO_RECORD, 0);
+    expect("print with a bad gate", print(0, JENNYDUSK_SPAN), JENNYDUSK_NO_RECORD, 0);
+    expect("print with a bad gate for a label", print_for(240, 0, 0, JENNYDUSK_SPAN), JENNYDUSK_NO_RECORD, 0);
+}
+
+/* A fit record that has ended stays as it is, and is listed. */
+static void expect_fit(void) {
+    size_t listed = strlen("E,3,3,0,1,240,240\n");
+    expect_idle("step with gates", step(SIZE, JENNYDUSK_SPAN));
+    expect_idle("run with gates", run(JENNYDUSK_SPAN));
+    expect_idle("run with gates to a tick", run_to(9, SIZE, JENNYDUSK_SPAN));
+    expect("print with gates", print(ROOM, JENNYDUSK_SPAN), JENNYDUSK_DONE, listed);
+    expect("print with gates for a label", print_for(240, SIZE, ROOM, JENNYDUSK_SPAN), JENNYDUSK_DONE, listed);
+}
+
+/* The record of a run that has stalled, with so many gates, and the pair in one slot: below their number it must be valid,
+ * and behind it may be any. */
+static void try_gate(unsigned count, unsigned slot, unsigned p, unsigned t) {
+    uint64_t *gate = &record[JENNYDUSK_GATE(slot)], own[] = {gate[1], gate[2]};
+    record[JENNYDUSK_GATE_COUNT] = count;
+    gate[1] = p;
+    gate[2] = t;
+    keep();
+    if (slot >= count || valid(p, t))
+        expect_fit();
+    else
+        expect_unfit();
+    gate[1] = own[0];
+    gate[2] = own[1];
+}
+
+/* Every slot with every number of gates. */
+static void try_slots(unsigned p, unsigned t) {
+    for (unsigned both = 0; both < GATES * (GATES + 1); both++)
+        try_gate(both / GATES, both % GATES, p, t);
+}
+
+/* A G line is accepted where its pair is valid, and is 13 where it isn't. The record and the memory are then put back. */
+static void try_gate_line(unsigned p, unsigned t) {
+    char text[ROOM];
+    uint64_t own[JENNYDUSK_SPAN + 1];
+    memcpy(own, record, sizeof record);
+    snprintf(text, sizeof text, "M,2,1,1,240,240,5\nG,0,%u,%u\n", p, t);
+    keep();
+    if (valid(p, t))
+        expect("load of a gate", load(text, SIZE, JENNYDUSK_SPAN), JENNYDUSK_DONE, 0);
+    else
+        expect("load of a gate", load(text, SIZE, JENNYDUSK_SPAN), JENNYDUSK_GATE_PAIR, 2);
+    memcpy(record, own, sizeof record);
+}
+
+static void try_gates(void) {
+    expect("load", load("M,2,1,1,240,240,5\n", SIZE, JENNYDUSK_SPAN), JENNYDUSK_DONE, 0);
+    expect("run", run(JENNYDUSK_SPAN), JENNYDUSK_DONE, 0);
+    for (unsigned both = 0; both < LABELS * LABELS; both++) {
+        unsigned p = both / LABELS, t = both % LABELS;
+        try_gate_line(p, t);
+        try_gate(GATES / 2, (p + t) % GATES, p, t);
+    }
+    try_slots(255, 240);
+    try_slots(240, 15);
+    try_slots(18, 18);
+    try_slots(240, 255);
+}
+
 int main(void) {
     try_refused_loads();
     try_calls();
@@ -461,5 +540,6 @@ int main(void) {
     try_refused_certificates();
     try_certificates();
     try_labels();
+    try_gates();
     return wrong;
 }

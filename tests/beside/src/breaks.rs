@@ -186,6 +186,44 @@ pub const SHAPES: [Break; 5] = [
     }),
 ];
 
+/// So many gates of valid pairs. The words behind them hold pairs that are not
+/// valid, of which fitness asks nothing.
+fn gates<const COUNT: usize>(m: &mut Machine) {
+    m.gate_count = COUNT;
+    m.gates.iter_mut().for_each(|gate| gate.pair = Pair::new(15, 18));
+    m.gates[..COUNT].iter_mut().for_each(|gate| gate.pair = Pair::new(240, 255));
+}
+
+/// A gate gets another pair.
+fn put_gate(m: &mut Machine, gate: usize, p: u8, t: u8) {
+    m.gates[gate].pair = Pair::new(p, t);
+}
+
+/// "A fit record now also has only valid gates": each gate, as the last one and as
+/// one of eight, in each way in which a pair is not valid.
+pub const GATES: [Break; 20] = [
+    way("gate 0 of 1: p not to t", gates::<1>, |m| put_gate(m, 0, 255, 240)),
+    way("gate 0 of 1: t unsound", gates::<1>, |m| put_gate(m, 0, 240, 15)),
+    way("gate 0 of 1: p and t unsound", gates::<1>, |m| put_gate(m, 0, 18, 18)),
+    way("gate 0 of 1: p unsound and not to t", gates::<1>, |m| put_gate(m, 0, 18, 240)),
+    way("gate 0 of 1: by one principal", gates::<1>, |m| put_gate(m, 0, 1, 1)),
+    way("gate 1 of 2: p not to t", gates::<2>, |m| put_gate(m, 1, 0, 16)),
+    way("gate 2 of 3: t unsound", gates::<3>, |m| put_gate(m, 2, 240, 8)),
+    way("gate 3 of 4: p and t unsound", gates::<4>, |m| put_gate(m, 3, 15, 15)),
+    way("gate 4 of 5: p not to t", gates::<5>, |m| put_gate(m, 4, 241, 240)),
+    way("gate 5 of 6: t unsound", gates::<6>, |m| put_gate(m, 5, 240, 225)),
+    way("gate 6 of 7: p and t unsound", gates::<7>, |m| put_gate(m, 6, 4, 4)),
+    way("gate 7 of 8: p not to t", gates::<8>, |m| put_gate(m, 7, 255, 240)),
+    way("gate 0 of 8: t unsound", gates::<8>, |m| put_gate(m, 0, 240, 15)),
+    way("gate 1 of 8: p and t unsound", gates::<8>, |m| put_gate(m, 1, 18, 18)),
+    way("gate 2 of 8: p not to t", gates::<8>, |m| put_gate(m, 2, 0, 240)),
+    way("gate 3 of 8: t unsound", gates::<8>, |m| put_gate(m, 3, 240, 2)),
+    way("gate 4 of 8: p and t unsound", gates::<8>, |m| put_gate(m, 4, 33, 33)),
+    way("gate 5 of 8: p unsound and not to t", gates::<8>, |m| put_gate(m, 5, 18, 240)),
+    way("gate 6 of 8: p not to t", gates::<8>, |m| put_gate(m, 6, 255, 0)),
+    way("gate 7 of 8: t unsound", gates::<8>, |m| put_gate(m, 7, 240, 15)),
+];
+
 /// Register 0 "always reads 0 with the lowest label, in every fit record too":
 /// another value, near and far, and another label, by one principal and by all.
 pub const ZERO: [Break; 4] = [
@@ -199,5 +237,5 @@ pub const ZERO: [Break; 4] = [
 
 /// All the ways.
 pub fn breaks() -> impl Iterator<Item = &'static Break> {
-    RANGES.iter().chain(&PAIRS).chain(&UPCALLS).chain(&SHAPES).chain(&ZERO)
+    RANGES.iter().chain(&PAIRS).chain(&UPCALLS).chain(&SHAPES).chain(&GATES).chain(&ZERO)
 }

@@ -1,6 +1,7 @@
 //! Fit records that no load and no run gives, or seldom: at the edges of
 //! fitness, where one condition more would refuse them.
 
+use interpreter::generator::labels::{invalid_pair, valid_pair};
 use interpreter::generator::random::Random;
 use interpreter::machine::{end, END_TICK_BOUND, MAX_GATES, MAX_LIMIT, MAX_SIZE, ZERO_REGISTER};
 use interpreter::{Call, Label, Machine, Pair, Register, Return};
@@ -68,7 +69,7 @@ pub const ENDED: [Edge; 7] = [
 ];
 
 /// What "these ranges", valid pairs and the end tick allow.
-pub const RANGES: [Edge; 15] = [
+pub const RANGES: [Edge; 14] = [
     edge("running at the limit", |m, _| {
         m.clock = m.clock.max(1);
         m.limit = m.clock;
@@ -90,11 +91,6 @@ pub const RANGES: [Edge; 15] = [
         m.limit = m.clock + 4;
         put_upcall(m, r, |m| m.clock + 3);
         put_end(m, end::RUNNING);
-    }),
-    edge("gates of any pair", |m, r| {
-        m.gate_count = MAX_GATES;
-        let bits = r.bits();
-        m.gates.iter_mut().for_each(|gate| gate.pair = Pair::new(bits as u8, (bits >> 8) as u8));
     }),
     edge("no gates before their words", |m, r| {
         m.gate_count = 0;
@@ -123,7 +119,28 @@ pub const RANGES: [Edge; 15] = [
     edge("greatest size", |m, _| m.size = MAX_SIZE),
 ];
 
+/// So many gates of any valid pairs, and behind them pairs that are not valid.
+fn put_gates<const COUNT: usize>(m: &mut Machine, random: &mut Random) {
+    m.gate_count = COUNT;
+    m.gates[..COUNT].iter_mut().for_each(|gate| gate.pair = valid_pair(random));
+    m.gates[COUNT..].iter_mut().for_each(|gate| gate.pair = invalid_pair(random));
+}
+
+/// "A fit record now also has only valid gates": those below their number. What
+/// stands behind them may be anything, and no load and no run puts it there.
+pub const GATES: [Edge; 9] = [
+    edge("invalid pairs behind no gate", put_gates::<0>),
+    edge("invalid pairs behind 1 gate", put_gates::<1>),
+    edge("invalid pairs behind 2 gates", put_gates::<2>),
+    edge("invalid pairs behind 3 gates", put_gates::<3>),
+    edge("invalid pairs behind 4 gates", put_gates::<4>),
+    edge("invalid pairs behind 5 gates", put_gates::<5>),
+    edge("invalid pairs behind 6 gates", put_gates::<6>),
+    edge("an invalid pair behind 7 gates", put_gates::<7>),
+    edge("eight gates of any valid pairs", put_gates::<MAX_GATES>),
+];
+
 /// All the changes.
 pub fn edges() -> impl Iterator<Item = &'static Edge> {
-    ENDED.iter().chain(&RANGES)
+    ENDED.iter().chain(&RANGES).chain(&GATES)
 }

@@ -15,6 +15,7 @@ use interpreter::generator::compose::compose;
 use interpreter::generator::damage::{damage, PLANS};
 use interpreter::generator::random::Random;
 use interpreter::hex::{BAD_BYTE, BAD_RECORD};
+use interpreter::load::BAD_GATE_PAIR;
 use interpreter::Label;
 use std::ops::RangeInclusive;
 
@@ -33,8 +34,9 @@ pub struct Loading {
 /// Those of a text's length and first line.
 const OF_FIRST_LINE: &[u64] = &[1, 2, 3, 5];
 
-/// Those of the lines behind it, 9 for an R line for register 0.
-const OF_LATER_LINES: &[u64] = &[2, 3, 4, 9];
+/// Those of the lines behind it, 9 for an R line for register 0, 13 for a gate of
+/// an invalid pair.
+const OF_LATER_LINES: &[u64] = &[2, 3, 4, 9, BAD_GATE_PAIR as u64];
 
 /// That of an M text's second line, and those of the records of HEX.
 const OF_RECORDS: &[u64] = &[4, BAD_RECORD as u64, BAD_BYTE as u64];

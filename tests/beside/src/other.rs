@@ -57,8 +57,8 @@ fn list(record: &[u64], call: impl FnOnce(&Machine) -> Result<usize, u8>) -> u64
 }
 
 impl Calls for Other {
-    /// "Answers a number, 0 to 6, 9 or 255, and 256 times the line that was
-    /// refused."
+    /// Answers a number, 0 to 6, 9, 13 or 255, and 256 times the line that was
+    /// refused.
     fn load(&self, text: &[u8], words: &mut [u32], labels: &mut [u8], record: &mut [u64]) -> u64 {
         if record.len() < SPAN {
             return SHORT_BUFFER;
@@ -140,9 +140,8 @@ impl Calls for Other {
     }
 
     /// "Certifies a text at one label: loads it, and runs it to its end. The
-    /// certificate goes to its buffer; words and labels hold what the run leaves.
-    /// Answers a number, 0 to 6, 9 or 255, and 256 times the line that was
-    /// refused."
+    /// certificate goes to its buffer; words and labels hold what the run leaves."
+    /// Answers as a load does.
     fn certify(
         &self,
         label: u8,

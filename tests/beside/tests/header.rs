@@ -6,6 +6,7 @@ use beside::certificate;
 use beside::layout::{at, SPAN};
 use interpreter::certificate::cause;
 use interpreter::hex::{BAD_BYTE, BAD_RECORD};
+use interpreter::load::BAD_GATE_PAIR;
 
 const HEADER: &str = include_str!("../../../include/jennydusk.h");
 
@@ -85,6 +86,7 @@ fn the_papers_numbers() {
     assert_eq!(number("TICK") as u64, TICK_LATE);
     assert_eq!(["HEX_RECORD", "HEX_BYTE"].map(number), [11, 12]);
     assert_eq!(["HEX_RECORD", "HEX_BYTE"].map(number), [BAD_RECORD, BAD_BYTE].map(usize::from));
+    assert_eq!([number("GATE_PAIR"), usize::from(BAD_GATE_PAIR)], [13, 13]);
 }
 
 /// The paper's table has no such refusal, and so no such number.

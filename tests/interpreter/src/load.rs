@@ -17,6 +17,9 @@ pub(crate) const BAD_ORDER: u8 = 4;
 const BAD_PAIR: u8 = 5;
 const BAD_REGISTER: u8 = 9;
 
+/// "13, a gate pair not valid"
+pub const BAD_GATE_PAIR: u8 = 13;
+
 /// The refusal table's second and third columns for a load: "number, line". A
 /// line's number is as wide as a text's length.
 #[derive(Clone, Copy, Debug, PartialEq, Eq)]
@@ -52,7 +55,8 @@ pub(crate) struct Image {
 
 /// The first row that applies of the refusal table, in its order: "After 1,
 /// line by line, a line is tried for 2, 4 (kind), 3, 4 (rising), then 5; 6
-/// follows line 1, before line 2." 9 is "tried after the rising test".
+/// follows line 1, before line 2." 9 is "tried after the rising test", and 13
+/// "after the line's other tests".
 pub fn load(text: &[u8], words: &mut [u32], labels: &mut [u8]) -> Result<Machine, Refusal> {
     let (mut image, mut cursor) = load_first(text, words, labels)?;
     let mut number = 1;
@@ -219,12 +223,16 @@ impl Image {
     }
 
     /// "then `G,place,p,t`, gates numbered from 0 in this order"; "number
-    /// outside its range; ninth G" are 3.
+    /// outside its range; ninth G" are 3, and "a gate pair not valid, tried after
+    /// the line's other tests" is 13.
     fn add_gate(&mut self, pc: u64, pc_label: u64, timing_label: u64) -> Result<(), u8> {
         let pair = Pair { pc: to_label(pc_label)?, timing: to_label(timing_label)? };
         let gate = Gate { pc: to_word(pc)?, pair };
         if self.machine.gate_count == MAX_GATES {
             return Err(BAD_RANGE);
+        }
+        if !gate.pair.is_valid() {
+            return Err(BAD_GATE_PAIR);
         }
         self.machine.gates[self.machine.gate_count] = gate;
         self.machine.gate_count += 1;

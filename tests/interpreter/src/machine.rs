@@ -157,6 +157,12 @@ impl Machine {
             && why_holds
     }
 
+    /// "A fit record now also has only valid gates." Its gates are those below
+    /// their number; of what stands behind them nothing is asked.
+    fn gates_are_valid(&self) -> bool {
+        self.gates.iter().take(self.gate_count).all(|gate| gate.pair.is_valid())
+    }
+
     /// Register 0 "always reads 0 with the lowest label, in every fit record
     /// too". Nothing is asked of the others.
     fn constants_hold(&self) -> bool {
@@ -189,9 +195,10 @@ impl Machine {
 /// "The record is *fit* when these ranges hold, clock ≤ limit, the current and
 /// all kept pairs are valid, and an upcall's kept labels flow to the current
 /// ones, its end tick at least the clock and below 2^33." And register 0 reads
-/// 0 with the lowest label.
+/// 0 with the lowest label, and the pairs of the gates are valid.
 pub fn is_fit(machine: &Machine) -> bool {
     machine.ranges_hold()
+        && machine.gates_are_valid()
         && machine.constants_hold()
         && machine.calls_are_shaped()
         && machine.clock <= machine.limit

@@ -217,10 +217,11 @@ impl Machine {
         true
     }
 
-    /// "**Gate call**: no open call; gate number exists; its pair is valid and
-    /// both its labels flow to p; Lb flows to p. It keeps place + 1 and the
-    /// pair, then takes the gate's." The pc has moved on already, so it is the
-    /// place + 1 to keep.
+    /// "**Gate call**: no open call; gate number exists; .. both its labels flow
+    /// to p; Lb flows to p. It keeps place + 1 and the pair, then takes the
+    /// gate's." The pc has moved on already, so it is the place + 1 to keep. "Take
+    /// the test of the pair out of the step": the gates of a fit record have
+    /// valid ones.
     #[inline(never)]
     fn gate_call(&mut self, i: Instruction) -> bool {
         let number = self.registers[i.b()];
@@ -229,7 +230,6 @@ impl Machine {
             return false;
         };
         let passes = self.first.is_empty()
-            && gate.pair.is_valid()
             && gate.pair.pc.flows_to(self.pair.pc)
             && gate.pair.timing.flows_to(self.pair.pc)
             && number.label.flows_to(self.pair.pc);

@@ -4,7 +4,11 @@ mod common;
 
 use common::{plain, Loaded};
 use interpreter::instruction::{encode, op};
-use interpreter::{is_fit, print, Call, Machine, Pair, Return};
+use interpreter::{is_fit, print, print_for, Call, Gate, Label, Machine, Pair, Return};
+
+/// Pairs that are not valid: p doesn't flow to t, t isn't sound, neither is, and p
+/// isn't and doesn't flow to t.
+const INVALID: [(u8, u8); 4] = [(255, 240), (240, 15), (18, 18), (18, 240)];
 
 fn fit_machine() -> Machine {
     Machine::new(8, 7, 0, Pair::new(240, 240), 100)
@@ -107,14 +111,60 @@ fn current_and_kept_pairs_are_valid() {
 }
 
 #[test]
-fn a_gates_pair_may_be_invalid_in_a_fit_record_and_op_20_tests_it() {
+fn the_pairs_of_the_gates_below_their_number_are_valid_and_no_others_are_asked() {
+    for count in 0..=8 {
+        for (gate, (pc, timing)) in (0..8).flat_map(|gate| INVALID.map(|pair| (gate, pair))) {
+            let change = |m: &mut Machine| {
+                m.gate_count = count;
+                m.gates[gate].pair = Pair::new(pc, timing);
+            };
+            assert_eq!(fits(change), gate >= count, "gate {gate} of {count}: {pc}, {timing}");
+        }
+    }
+}
+
+#[test]
+fn every_valid_pair_can_be_a_gates_and_no_other() {
+    for (pc, timing) in (0..=255).flat_map(|pc| (0..=255).map(move |timing| (pc, timing))) {
+        let change = |m: &mut Machine| {
+            m.gate_count = 3;
+            m.gates[1].pair = Pair::new(pc, timing);
+        };
+        assert_eq!(fits(change), Pair::new(pc, timing).is_valid(), "{pc}, {timing}");
+    }
+}
+
+#[test]
+fn invalid_pairs_behind_the_gates_change_no_step() {
     let mut draft = plain(&[encode(op::GATE_CALL, 0, 1, 0)]);
-    draft.gate(5, 255, 240);
-    let mut loaded = Loaded::of(&draft);
-    assert!(is_fit(&loaded.machine));
-    loaded.steps(1);
-    assert_eq!((loaded.machine.pc, loaded.machine.clock), (1, 4));
-    assert_eq!(loaded.machine.first, Call::Empty);
+    draft.gate(5, 240, 240);
+    let mut plainly = Loaded::of(&draft);
+    let mut beside = plainly.clone();
+    let behind = |gates: &mut [Gate]| gates.iter_mut().for_each(|g| g.pair = Pair::new(18, 15));
+    behind(&mut beside.machine.gates[1..]);
+    plainly.steps(1);
+    beside.steps(1);
+    assert_eq!((beside.machine.pc, beside.machine.clock), (5, 4));
+    behind(&mut plainly.machine.gates[1..]);
+    assert_eq!(beside, plainly);
+}
+
+#[test]
+fn a_gate_of_an_invalid_pair_is_7_before_6_and_8_and_nothing_changes() {
+    let unfit = with(|m| {
+        m.gate_count = 2;
+        m.gates[1].pair = Pair::new(255, 240);
+    });
+    for length in [7, 8] {
+        let (mut words, labels, mut output) = (vec![9; length], vec![9; length], [33; 3]);
+        let mut changed = unfit.clone();
+        assert_eq!(changed.step(&mut words, &labels), Err(7));
+        assert_eq!(changed.run(&mut words, &labels), Err(7));
+        assert_eq!(changed.run_to(&mut words, &labels, 5), Err(7));
+        assert_eq!(print(&changed, &words, &labels, &mut output), Err(7));
+        assert_eq!(print_for(&changed, &words, &labels, Label::HIGHEST, &mut output), Err(7));
+        assert_eq!((changed, words, output), (unfit.clone(), vec![9; length], [33; 3]));
+    }
 }
 
 #[test]

@@ -8,7 +8,7 @@ use interpreter::generator::damage::{damage, PLANS};
 use interpreter::generator::random::Random;
 use interpreter::generator::Generator;
 use interpreter::loops::loops;
-use interpreter::{load, Refusal};
+use interpreter::{load, Pair, Refusal};
 
 #[test]
 fn the_same_seed_gives_the_same_images() {
@@ -21,14 +21,27 @@ fn the_same_seed_gives_the_same_images() {
 }
 
 #[test]
-fn every_fourth_image_is_damaged_and_no_other_has_a_line_for_register_0() {
+fn every_fourth_image_is_damaged_and_no_other_has_a_line_for_register_0_or_a_bad_gate() {
     let mut generator = Generator::new(5);
     for number in 1..=1_000 {
         let text = String::from_utf8(generator.next_image()).unwrap();
         let is_good = Loaded::of_text(&text).is_ok();
         assert_eq!(is_good, number % 4 != 0, "{text}");
         assert!(!is_good || !text.contains("\nR,0,"), "{text}");
+        assert!(!is_good || gate_pairs(&text).iter().all(|pair| pair.is_valid()), "{text}");
     }
+}
+
+/// The pairs of the G lines of a good text.
+fn gate_pairs(text: &str) -> Vec<Pair> {
+    let gates = text.lines().filter(|line| line.starts_with('G'));
+    let label = |field: Option<&str>| field.unwrap().parse().unwrap();
+    gates
+        .map(|line| {
+            let mut fields = line.split(',').skip(2);
+            Pair::new(label(fields.next()), label(fields.next()))
+        })
+        .collect()
 }
 
 #[test]

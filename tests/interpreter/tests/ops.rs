@@ -198,6 +198,18 @@ fn a_gate_call_asks_both_its_labels_to_flow_to_p() {
 }
 
 #[test]
+fn a_gate_call_asks_lb_to_flow_to_p() {
+    for (label, calls) in [(240, true), (255, false), (0, false)] {
+        let mut draft = in_gate(Pair::new(240, 240), &[]);
+        draft.pair = Pair::new(240, 240);
+        draft.register(1, label, 0);
+        let mut loaded = Loaded::of(&draft);
+        loaded.steps(1);
+        assert_eq!((loaded.machine.first != Call::Empty, loaded.machine.clock), (calls, 4));
+    }
+}
+
+#[test]
 fn a_gate_return_fails_when_the_labels_have_risen_above_the_kept_ones() {
     let code = [encode_registers(op::SET_PAIR, 0, 2, 2, 0), encode(op::GATE_RETURN, 0, 0, 0)];
     let mut draft = in_gate(Pair::new(240, 240), &code);

@@ -3,7 +3,7 @@
 mod common;
 
 use common::{refusal, Loaded};
-use interpreter::{load, Label, Refusal};
+use interpreter::{load, Label, Pair, Refusal};
 
 const M: &str = "M,8,7,0,240,240,100\n";
 
@@ -16,7 +16,7 @@ const ACCEPTED: (u8, u64) = (0, 0);
 
 #[test]
 fn a_good_text_is_accepted() {
-    assert_eq!(after_m("G,1,240,255\nG,1,0,15\nR,1,1,2\nR,15,3,4\nW,0,5,6\nW,7,7,8\n"), ACCEPTED);
+    assert_eq!(after_m("G,1,240,255\nG,1,0,0\nR,1,1,2\nR,15,3,4\nW,0,5,6\nW,7,7,8\n"), ACCEPTED);
 }
 
 #[test]
@@ -237,8 +237,82 @@ fn place_and_error_place_need_not_be_below_the_size() {
 }
 
 #[test]
-fn g_pairs_may_be_invalid_and_other_labels_unsound() {
-    assert_eq!(after_m("G,1,255,240\nG,1,18,18\nR,1,15,0\nW,1,15,0\n"), ACCEPTED);
+fn labels_of_registers_and_words_may_be_unsound() {
+    assert_eq!(after_m("G,1,255,255\nR,1,15,0\nR,2,18,0\nW,1,15,0\nW,2,18,0\n"), ACCEPTED);
+}
+
+#[test]
+fn a_g_line_of_an_invalid_pair_is_13_at_its_line() {
+    assert_eq!(after_m("G,0,1,1\n"), (13, 2));
+    for pair in ["255,240", "240,15", "18,18", "18,240", "0,240", "15,15"] {
+        assert_eq!(after_m(&format!("G,1,{pair}\n")), (13, 2), "{pair}");
+        assert_eq!(after_m(&format!("G,1,240,240\nG,1,{pair}\n")), (13, 3), "{pair}");
+        assert_eq!(after_m(&format!("G,1,{pair}\nG,1,{pair}\n")), (13, 2), "{pair}");
+    }
+}
+
+#[test]
+fn every_valid_pair_is_taken_on_a_g_line_and_no_other() {
+    for (p, t) in (0..=255).flat_map(|p| (0..=255).map(move |t| (p, t))) {
+        let due = if Pair::new(p, t).is_valid() { ACCEPTED } else { (13, 2) };
+        assert_eq!(after_m(&format!("G,1,{p},{t}\n")), due);
+    }
+}
+
+#[test]
+fn a_g_line_of_an_invalid_pair_is_tried_for_2_4_and_3_first() {
+    for line in ["G,+1,0,240\n", "G,01,0,240\n", "G,0,240\n", "G,1,0,240,\n", "G,1,0,240"] {
+        assert_eq!(after_m(line), (2, 2), "{line}");
+    }
+    assert_eq!(after_m("G,4294967296,0,240\n"), (3, 2));
+    // Cut to a byte the labels of these would make pairs of both sorts.
+    for pair in ["256,240", "256,256", "240,256", "496,240", "0,496"] {
+        assert_eq!(after_m(&format!("G,1,{pair}\n")), (3, 2), "{pair}");
+    }
+    assert_eq!(after_m("R,1,240,1\nG,1,0,240\n"), (4, 3));
+    assert_eq!(after_m("W,1,240,1\nG,1,0,240\n"), (4, 3));
+    // A first line that isn't M.
+    assert_eq!(refusal("G,1,0,240\n"), (2, 1));
+}
+
+#[test]
+fn the_eighth_g_is_tried_for_13_and_the_ninth_for_3() {
+    let seven = "G,0,240,240\n".repeat(7);
+    assert_eq!(after_m(&format!("{seven}G,0,0,240\n")), (13, 9));
+    assert_eq!(after_m(&format!("{seven}G,0,240,240\nG,0,0,240\n")), (3, 10));
+    assert_eq!(after_m(&format!("{seven}G,0,0,240\nG,0,0,240\n")), (13, 9));
+}
+
+#[test]
+fn thirteen_on_an_earlier_line_comes_before_what_is_wrong_later_and_the_other_way_round() {
+    let wrong = [
+        ("R,1,240,x\n", 2),
+        ("G,1,240,256\n", 3),
+        ("M,8,7,0,240,240,100\n", 4),
+        ("R,3,240,0\nR,3,240,0\n", 4),
+        ("R,0,240,0\n", 9),
+        ("R,1,240,0", 2),
+    ];
+    for (rest, _) in wrong {
+        assert_eq!(after_m(&format!("G,1,0,240\n{rest}")), (13, 2), "{rest}");
+    }
+    for (rest, number) in &wrong[..5] {
+        let line = 1 + rest.lines().count() as u64;
+        assert_eq!(after_m(&format!("{rest}G,1,0,240\n")), (*number, line), "{rest}");
+    }
+    assert_eq!(refusal("M,8,7,0,255,240,100\nG,1,0,240\n"), (5, 1));
+    assert_eq!(refusal("M,0,7,0,240,240,100\nG,1,0,240\n"), (3, 1));
+}
+
+#[test]
+fn thirteen_leaves_the_memory_and_comes_after_6() {
+    let text = format!("{M}G,1,0,240\nW,3,15,9\n");
+    for (length, refused) in [(10, (13, 2)), (7, (6, 1))] {
+        let (mut words, mut labels) = (vec![5; length], vec![6; length]);
+        let Refusal { number, line } = load(text.as_bytes(), &mut words, &mut labels).unwrap_err();
+        assert_eq!((number, line), refused);
+        assert_eq!((words, labels), (vec![5; length], vec![6; length]));
+    }
 }
 
 #[test]
@@ -276,11 +350,11 @@ fn a_refused_load_leaves_the_memory_whatever_was_accepted_before() {
 
 #[test]
 fn gates_are_numbered_in_order_and_registers_set() {
-    let text = format!("{M}G,5,240,255\nG,6,1,2\nR,3,15,9\n");
+    let text = format!("{M}G,5,240,255\nG,6,17,17\nR,3,15,9\n");
     let machine = Loaded::of_text(&text).unwrap().machine;
     assert_eq!(machine.gate_count, 2);
     assert_eq!((machine.gates[0].pc, machine.gates[0].pair.timing), (5, Label(255)));
-    assert_eq!((machine.gates[1].pc, machine.gates[1].pair.pc), (6, Label(1)));
+    assert_eq!((machine.gates[1].pc, machine.gates[1].pair.pc), (6, Label(17)));
     assert_eq!((machine.registers[3].value, machine.registers[3].label), (9, Label(15)));
     assert_eq!((machine.registers[2].value, machine.registers[2].label), (0, Label(240)));
     assert_eq!((machine.clock, machine.end, machine.why), (0, 0, 0));

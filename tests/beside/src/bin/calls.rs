@@ -15,7 +15,7 @@ use beside::library::Library;
 use beside::loads::{try_cabinet, try_load, LOAD};
 use beside::no_records::{no_records, SHORT_BUFFERS};
 use beside::other::Other;
-use beside::random_records::change;
+use beside::random_records::{change, gates_of, GATES};
 use beside::tally::Tally;
 use beside::trials::{one_of_each, Call, Due, Trials, LENDINGS, NAMES};
 use beside::verdict::close;
@@ -81,6 +81,7 @@ fn expected() -> Vec<String> {
         names.extend(["6", "7", "255"].map(|number| format!("{call}, {number} before 8")));
     }
     names.extend(CAME.map(|far| format!("run_to, {far}")));
+    names.extend(GATES.map(str::to_string));
     names
 }
 
@@ -148,6 +149,7 @@ fn try_random_record(trials: &mut Trials, random: &mut Random, base: &Base) {
     lent.output.lend(random.pick(&[0, 100, 65_536]), 0);
     let answer = number(lent.clone().step(&Library));
     trials.tally.count(&format!("{}, random words, step answers {answer}", call.name()));
+    gates_of(&record).iter().for_each(|name| trials.tally.count(name));
     trials.try_call("random words", call, &lent, Due::Open);
 }
 

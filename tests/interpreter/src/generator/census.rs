@@ -18,7 +18,7 @@ pub const CONTEXTS: [&str; 4] =
 
 /// Everything besides the ops that a run can meet. All are listed, so that one
 /// that is never met shows up with the count 0.
-const NOTES: [&str; 88] = [
+const NOTES: [&str; 90] = [
     "end 1 with no call open",
     "end 1 with a gate call open",
     "end 2 with no call open",
@@ -36,6 +36,7 @@ const NOTES: [&str; 88] = [
     "refusal 4",
     "refusal 5",
     "refusal 9",
+    "refusal 13",
     "fetch fails with no call open, why 1",
     "fetch fails with no call open, why 2",
     "fetch fails with no call open, why 3",
@@ -87,10 +88,11 @@ const NOTES: [&str; 88] = [
     "op from a word that the upcall's caller can't fetch",
     "op from a word that the program rewrote",
     "ops 15 to 18 with a value above 255",
-    "gate call fails: no such gate",
-    "gate call fails: its pair is not valid",
-    "gate call fails: its labels don't flow to p",
-    "gate call fails: Lb",
+    "gate call fails by one test alone: a call is open",
+    "gate call fails by one test alone: no such gate",
+    "gate call fails by one test alone: the gate's timing label",
+    "gate call fails by one test alone: both labels of the gate",
+    "gate call fails by one test alone: Lb",
     "gate return fails: labels, with a gate call on top",
     "ops 2 to 8 with register 0",
     "op 9 with the address in register 0",

@@ -12,11 +12,11 @@ use super::labels;
 use super::on_zero::{is_on_zero, is_stopped_alone, with_a, writes};
 use super::random::Random;
 use super::start::{start_draft, LONGEST_UPCALL};
-use super::words::word_of;
+use super::words::{with_operands, word_of};
 use crate::draft::Draft;
 use crate::instruction::{op, Instruction};
 use crate::label::{Label, Pair};
-use crate::machine::{end, Machine, MAX_LIMIT, ZERO_REGISTER};
+use crate::machine::{end, Machine, Register, MAX_LIMIT, ZERO_REGISTER};
 use crate::step::{Event, DIVISION_TICKS};
 
 /// So many words are tried for an op that is wanted to pass or to fail.
@@ -39,6 +39,11 @@ const EDGE_DIVISION_CHANCE: u32 = 75;
 /// So many of a hundred multiplies are chosen by what decides their ticks, the
 /// rarer so far the likelier.
 const TIMED_MULTIPLY_CHANCE: u32 = 80;
+
+/// So many of a hundred gate calls that shall fail name a gate, and so many of
+/// these by a register that is hidden from p, where there is one.
+const NAMED_GATE_CHANCE: u32 = 70;
+const HIDDEN_GATE_CHANCE: u32 = 30;
 
 /// A program being written and run at once.
 struct Writer {
@@ -159,8 +164,10 @@ impl Writer {
         let edge = is_at_edge.then(|| random.pick(&Edge::ALL));
         let is_timed = number == op::MULTIPLY && random.chance(TIMED_MULTIPLY_CHANCE);
         let timed = is_timed.then(|| census.multiplies.wanted(random, &self.machine, passed));
+        let fails_named = number == op::GATE_CALL && !passed && random.chance(NAMED_GATE_CHANCE);
         for _ in 0..TRIES {
             let word = word_of(random, number, self.machine.pc, self.machine.size);
+            let word = if fails_named { self.with_gate(random, word) } else { word };
             let word = timed.map_or(word, |timed| timed.with_factors(random, &self.machine, word));
             let word = edge.map_or(word, |edge| edge.with_operands(random, &self.machine, word));
             self.words[pc] = word;
@@ -173,6 +180,17 @@ impl Writer {
             }
         }
         std::mem::replace(&mut self.words[pc], before)
+    }
+
+    /// The word with a register for b that names a gate, if there is one.
+    fn with_gate(&self, random: &mut Random, word: u32) -> u32 {
+        let Machine { gate_count, pair, .. } = self.machine;
+        let is_hidden = random.chance(HIDDEN_GATE_CHANCE);
+        let names_gate = |register: Register| {
+            let flows = register.label.flows_to(pair.pc);
+            (register.value as usize) < gate_count && !(is_hidden && flows)
+        };
+        with_operands(random, &self.machine, word, names_gate, |_| true)
     }
 
     /// An op that would write or relabel register 0, the rarer in this context so

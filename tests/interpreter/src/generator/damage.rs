@@ -4,7 +4,7 @@
 //! What refusal is due is known from how the image was damaged, not from the
 //! loader, so the loader can be tried against it.
 
-use super::faults::Fault::{self, Form, Kind, Pair, Range, Rising, Zero};
+use super::faults::Fault::{self, Form, GatePair, Kind, Pair, Range, Rising, Zero};
 use super::faults::{number, Lines};
 use super::random::Random;
 use crate::draft::join_lines;
@@ -24,7 +24,8 @@ pub enum Plan {
     OneLine(Fault, Fault),
     /// Two faults on two lines; the first, on the earlier line, counts.
     TwoLines(Fault, Fault),
-    /// A ninth gate, with another fault that is tried before it or none.
+    /// A ninth gate, with another fault that is tried before it or, of its pair,
+    /// after it, or with none.
     NinthGate(Option<Fault>),
     /// The last LF missing, with another fault on that line or none.
     MissingEnd(Option<Fault>),
@@ -38,7 +39,7 @@ use Plan::{
 };
 
 /// All plans; they take turns.
-pub const PLANS: [Plan; 70] = [
+pub const PLANS: [Plan; 89] = [
     Empty,
     Long(None),
     Long(Some(Form)),
@@ -47,6 +48,7 @@ pub const PLANS: [Plan; 70] = [
     Long(Some(Rising)),
     Long(Some(Pair)),
     Long(Some(Zero)),
+    Long(Some(GatePair)),
     AlmostLong,
     One(Form),
     One(Kind),
@@ -54,6 +56,7 @@ pub const PLANS: [Plan; 70] = [
     One(Rising),
     One(Pair),
     One(Zero),
+    One(GatePair),
     One(Form),
     One(Range),
     OneLine(Form, Kind),
@@ -67,6 +70,9 @@ pub const PLANS: [Plan; 70] = [
     OneLine(Kind, Zero),
     OneLine(Range, Zero),
     OneLine(Rising, Zero),
+    OneLine(Form, GatePair),
+    OneLine(Kind, GatePair),
+    OneLine(Range, GatePair),
     TwoLines(Form, Form),
     TwoLines(Form, Kind),
     TwoLines(Form, Range),
@@ -97,14 +103,28 @@ pub const PLANS: [Plan; 70] = [
     TwoLines(Zero, Range),
     TwoLines(Zero, Rising),
     TwoLines(Zero, Zero),
+    TwoLines(Form, GatePair),
+    TwoLines(Kind, GatePair),
+    TwoLines(Range, GatePair),
+    TwoLines(Rising, GatePair),
+    TwoLines(Pair, GatePair),
+    TwoLines(Zero, GatePair),
+    TwoLines(GatePair, Form),
+    TwoLines(GatePair, Kind),
+    TwoLines(GatePair, Range),
+    TwoLines(GatePair, Rising),
+    TwoLines(GatePair, Zero),
+    TwoLines(GatePair, GatePair),
     NinthGate(None),
     NinthGate(Some(Form)),
     NinthGate(Some(Kind)),
+    NinthGate(Some(GatePair)),
     MissingEnd(None),
     MissingEnd(Some(Kind)),
     MissingEnd(Some(Range)),
     MissingEnd(Some(Rising)),
     MissingEnd(Some(Zero)),
+    MissingEnd(Some(GatePair)),
     LoneFirst(None),
     LoneFirst(Some(Range)),
     LoneFirst(Some(Pair)),
@@ -124,7 +144,8 @@ pub fn damage(random: &mut Random, plan: Plan) -> Damaged {
     let mut lines = Lines::good(random, gates);
     lines.names.push(format!("damage {plan:?}"));
     let last = match plan {
-        MissingEnd(Some(Zero)) => lines.first_register(),
+        MissingEnd(Some(Zero)) => lines.first_of("R"),
+        MissingEnd(Some(GatePair)) => lines.first_of("G"),
         _ => lines.lines.len() - 1,
     };
     let (refusal, end) = match plan {

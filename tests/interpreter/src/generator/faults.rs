@@ -7,8 +7,9 @@ use crate::label::Label;
 use crate::machine::ZERO_REGISTER;
 
 /// The faults that a line can have, in the order in which they are tried: "a
-/// line is tried for 2, 4 (kind), 3, 4 (rising), then 5", and for 9, an R line
-/// for register 0, "after the rising test".
+/// line is tried for 2, 4 (kind), 3, 4 (rising), then 5", for 9, an R line for
+/// register 0, "after the rising test", and for 13, a gate pair not valid, "after
+/// the line's other tests".
 #[derive(Clone, Copy, Debug, PartialEq, Eq)]
 pub enum Fault {
     Form,
@@ -17,11 +18,12 @@ pub enum Fault {
     Rising,
     Pair,
     Zero,
+    GatePair,
 }
-use Fault::{Form, Kind, Pair, Range, Rising, Zero};
+use Fault::{Form, GatePair, Kind, Pair, Range, Rising, Zero};
 
 /// The names of all that can be done to a line, under which it is counted.
-pub const FAULTS: [&str; 49] = [
+pub const FAULTS: [&str; 52] = [
     "form fault: lower-case letter",
     "form fault: unknown letter",
     "form fault: letter twice",
@@ -40,6 +42,9 @@ pub const FAULTS: [&str; 49] = [
     "form fault: eleven digits",
     "form fault: quotes",
     "form fault: not a digit",
+    "gate pair fault: p doesn't flow to t",
+    "gate pair fault: p isn't sound",
+    "gate pair fault: t isn't sound",
     "kind fault: M behind M",
     "kind fault: M behind G",
     "kind fault: M behind R",
@@ -73,6 +78,13 @@ pub const FAULTS: [&str; 49] = [
     "zero fault: any value and label",
 ];
 
+/// Where the pair stands in an M line, and in a G line.
+const PAIR_FIELDS: [usize; 2] = [4, 5];
+const GATE_PAIR_FIELDS: [usize; 2] = [2, 3];
+
+/// A gate of a valid pair.
+const GOOD_GATE: &str = "G,3,240,240";
+
 /// The lines of an image, each cut into its fields, while being damaged.
 pub struct Lines {
     pub lines: Vec<Vec<String>>,
@@ -87,6 +99,7 @@ pub fn number(fault: Fault) -> u8 {
         Kind | Rising => 4,
         Pair => 5,
         Zero => 9,
+        GatePair => 13,
     }
 }
 
@@ -100,7 +113,8 @@ impl Lines {
         let (error_pc, pc) = (random.below(size + 2), random.below(size + 2));
         let mut draft = Draft::new(size as usize, error_pc, pc, pair, limit);
         (0..gates).for_each(|_| {
-            draft.gate(random.bits(), random.bits() as u8, random.bits() as u8);
+            let pair = labels::valid_pair(random);
+            draft.gate(random.bits(), pair.pc.0, pair.timing.0);
         });
         (0..random.between(3, 6) as usize).for_each(|index| {
             draft.register(2 * index + 1, random.bits() as u8, random.bits() | 1);
@@ -130,6 +144,17 @@ impl Lines {
             }
             Pair => line == 0,
             Zero => line > 0 && self.takes_zero(line, others),
+            GatePair => line > 0 && self.takes_gate_pair(line, others),
+        }
+    }
+
+    /// Whether a line can be a G line, which stands behind an R or a W line if its
+    /// kind shall be out of order.
+    fn takes_gate_pair(&self, line: usize, others: &[Fault]) -> bool {
+        if others.contains(&Kind) {
+            matches!(self.letter(line - 1), "R" | "W")
+        } else {
+            self.letter(line) == "G"
         }
     }
 
@@ -148,10 +173,12 @@ impl Lines {
     }
 
     /// Whether a line can have a fault that isn't reached, for an earlier line is
-    /// refused. An R line for register 0 can then stand at any.
-    fn takes_behind(&self, line: usize, fault: Fault) -> bool {
+    /// refused. An R line for register 0 can then stand at any, and where no G line
+    /// is left any line can become one.
+    fn takes_behind(&self, line: usize, fault: Fault, earlier: usize) -> bool {
         match fault {
             Zero => self.letter(line) == "R",
+            GatePair => self.letter(line) == "G" || self.letter(earlier + 1) != "G",
             fault => self.takes(line, fault, &[]),
         }
     }
@@ -179,7 +206,8 @@ impl Lines {
         loop {
             let line = self.line_for(random, &[fault]);
             let behind = line + 1..self.lines.len();
-            let lines: Vec<usize> = behind.filter(|&line| self.takes_behind(line, other)).collect();
+            let lines: Vec<usize> =
+                behind.filter(|&later| self.takes_behind(later, other, line)).collect();
             if !lines.is_empty() {
                 let later = random.pick(&lines);
                 self.apply(random, later, &[other]);
@@ -189,25 +217,27 @@ impl Lines {
         }
     }
 
-    /// The first R line.
-    pub fn first_register(&self) -> usize {
-        let line = (0..self.lines.len()).find(|&line| self.letter(line) == "R");
-        line.expect("a good image has R lines")
+    /// The first line of a letter that a good image has.
+    pub fn first_of(&self, letter: &str) -> usize {
+        let line = (0..self.lines.len()).find(|&line| self.letter(line) == letter);
+        line.expect("a good image has G, R and W lines")
     }
 
-    /// A ninth G behind the eight, or behind a later line, or of bad form.
+    /// A ninth G behind the eight, or behind a later line, of bad form, or of a pair
+    /// that is not valid, which is tried later.
     pub fn add_ninth_gate(&mut self, random: &mut Random, fault: Option<Fault>) -> (u8, usize) {
-        let fields: Vec<String> = "G,0,240,240".split(',').map(str::to_string).collect();
+        let fields: Vec<String> = GOOD_GATE.split(',').map(str::to_string).collect();
         let behind_gates = 9;
         let line = match fault {
             Some(Kind) => random.between(behind_gates + 1, self.lines.len() as u32) as usize,
             _ => behind_gates as usize,
         };
         self.lines.insert(line, fields);
-        if let Some(Form) = fault {
-            self.apply(random, line, &[Form]);
+        if let Some(fault @ (Form | GatePair)) = fault {
+            self.apply(random, line, &[fault]);
         }
-        (fault.map_or(3, number), line + 1)
+        let earlier = fault.filter(|&fault| fault != GatePair);
+        (earlier.map_or(number(Range), number), line + 1)
     }
 
     /// Makes a line the last one, which is to lose its LF, with another fault or
@@ -230,10 +260,14 @@ impl Lines {
     pub fn apply(&mut self, random: &mut Random, line: usize, faults: &[Fault]) {
         let has = |fault: Fault| faults.contains(&fault);
         if has(Kind) {
-            self.break_kind(random, line, has(Zero));
+            self.break_kind(random, line, faults);
         }
         if has(Pair) {
-            self.break_pair(random, line);
+            self.break_pair(random, line, "pair", PAIR_FIELDS);
+        }
+        if has(GatePair) {
+            self.make_gate(line);
+            self.break_pair(random, line, "gate pair", GATE_PAIR_FIELDS);
         }
         if has(Rising) {
             self.break_rising(random, line, has(Zero));
@@ -241,7 +275,13 @@ impl Lines {
         if has(Zero) {
             self.name_zero(random, line);
         }
-        let mut spoilt = if has(Pair) { vec![4, 5] } else { Vec::new() };
+        let mut spoilt = Vec::new();
+        if has(Pair) {
+            spoilt.extend(PAIR_FIELDS);
+        }
+        if has(GatePair) {
+            spoilt.extend(GATE_PAIR_FIELDS);
+        }
         if has(Rising) || has(Zero) {
             spoilt.push(1);
         }
@@ -254,15 +294,19 @@ impl Lines {
     }
 
     /// A second M, or a G or an R behind a later kind; only an R where it is to
-    /// be that of register 0.
-    fn break_kind(&mut self, random: &mut Random, line: usize, for_zero: bool) {
-        let mut choices = if for_zero { vec![] } else { vec!["M,8,7,0,240,240,100"] };
+    /// be that of register 0, and only a G where its pair is to be no valid one.
+    fn break_kind(&mut self, random: &mut Random, line: usize, faults: &[Fault]) {
+        let (for_zero, for_gate) = (faults.contains(&Zero), faults.contains(&GatePair));
         let rank = |letter: &str| "MGRW".find(letter).unwrap_or(0);
         let previous = rank(self.letter(line - 1));
-        if previous > rank("G") && !for_zero {
-            choices.push("G,3,240,240");
+        let mut choices = Vec::new();
+        if !for_zero && !for_gate {
+            choices.push("M,8,7,0,240,240,100");
         }
-        if previous > rank("R") {
+        if previous > rank("G") && !for_zero {
+            choices.push(GOOD_GATE);
+        }
+        if previous > rank("R") && !for_gate {
             choices.push("R,15,240,1");
         }
         let choice = random.pick(&choices);
@@ -271,20 +315,28 @@ impl Lines {
         self.lines[line] = choice.split(',').map(str::to_string).collect();
     }
 
-    fn break_pair(&mut self, random: &mut Random, line: usize) {
+    /// Makes a line that isn't one a G line.
+    fn make_gate(&mut self, line: usize) {
+        if self.letter(line) != "G" {
+            self.lines[line] = GOOD_GATE.split(',').map(str::to_string).collect();
+        }
+    }
+
+    /// A pair that is not valid, of the machine or of a gate.
+    fn break_pair(&mut self, random: &mut Random, line: usize, whose: &str, fields: [usize; 2]) {
         let pair = labels::invalid_pair(random);
         let (p, t) = (pair.pc, pair.timing);
         if !p.flows_to(t) {
-            self.names.push("pair fault: p doesn't flow to t".to_string());
+            self.names.push(format!("{whose} fault: p doesn't flow to t"));
         }
         if !p.is_sound() {
-            self.names.push("pair fault: p isn't sound".to_string());
+            self.names.push(format!("{whose} fault: p isn't sound"));
         }
         if !t.is_sound() {
-            self.names.push("pair fault: t isn't sound".to_string());
+            self.names.push(format!("{whose} fault: t isn't sound"));
         }
-        self.lines[line][4] = p.0.to_string();
-        self.lines[line][5] = t.0.to_string();
+        self.lines[line][fields[0]] = p.0.to_string();
+        self.lines[line][fields[1]] = t.0.to_string();
     }
 
     /// The number of the line before, or a smaller one, or 0.

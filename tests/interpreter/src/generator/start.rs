@@ -23,6 +23,10 @@ const TOOLS: Range<usize> = ZERO_REGISTER + 1..STATUS;
 /// and something between them.
 pub const LONGEST_UPCALL: u32 = 80;
 
+/// In so many of a hundred images with gates the number of one stands in a
+/// register that is hidden from the pc label.
+const HIDDEN_GATE_CHANCE: u32 = 20;
+
 /// In so many of a hundred images all runs under the lowest labels, and nothing
 /// but its number keeps register 0 from being written.
 const LOWEST_CHANCE: u32 = 15;
@@ -102,6 +106,11 @@ fn lay_out_tools(random: &mut Random, draft: &mut Draft, high: Pair) {
     let values = [time, back, gate, target, code, dividend, divisor];
     let tools: Vec<u32> = values.into_iter().chain(labels).collect();
     set_tools(random, draft, &tools);
+    if !draft.gates.is_empty() && random.chance(HIDDEN_GATE_CHANCE) {
+        let label = labels::not_below(random, draft.pair.pc);
+        let number = random.between(TOOLS.start as u32, TOOLS.end as u32 - 1);
+        draft.register(number as usize, label.0, random.below(draft.gates.len() as u32));
+    }
     draft.registers[STATUS].label = match random.below(10) {
         0..=2 => high.timing,
         3..=5 => labels::above(random, high.timing),
@@ -134,18 +143,17 @@ fn place(random: &mut Random, size: u32) -> u32 {
     }
 }
 
-/// Gates that can mostly be called: their labels flow to the pc label. Some
-/// fail by one check alone.
+/// Gates that can mostly be called: their labels flow to the pc label. The pairs
+/// of the others are valid too: they lie above it, in one label or in both.
 fn add_gates(random: &mut Random, draft: &mut Draft) {
     let size = draft.words.len() as u32;
     let pair = draft.pair;
     for _ in 0..random.pick(&[0, 1, 2, 2, 3, 3, 4, 8]) {
         let timing = labels::below(random, pair.pc);
         let gate = match random.below(12) {
-            0 => labels::invalid_pair(random),
-            1 => labels::valid_pair(random),
-            // Both labels flow to the pc label, but perhaps not one to the other.
-            2 | 3 => Pair { pc: labels::below(random, pair.pc), timing },
+            0 | 1 => labels::valid_pair(random),
+            // Neither label flows to the pc label, unless it is that one.
+            2 | 3 => higher_pair(random, pair),
             // The timing label flows to the timing label, perhaps not to the pc label.
             4 | 5 => Pair { pc: labels::below(random, pair.pc), timing: pair.timing },
             _ => Pair { pc: labels::below(random, timing), timing },

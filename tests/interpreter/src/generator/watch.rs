@@ -70,6 +70,7 @@ fn watch_step(census: &mut Census, watched: &mut Watched) {
     moment.count_on_zero(census, event);
     moment.count_lateness(census, event);
     moment.count_operands(census);
+    moment.count_gate_call(census, event);
     moment.count_division(census, event);
     moment.count_multiply(census, event);
     moment.count_zero_sources(census, event);
@@ -269,14 +270,10 @@ impl Moment {
             return;
         };
         let registers = &self.before.registers;
-        match i.op() {
-            op::RAISE..=op::UPCALL => {
-                let takes_c = i.op() >= op::SET_PAIR;
-                let large = registers[i.b()].value > 255 || takes_c && registers[i.c()].value > 255;
-                census.note_if(large, "ops 15 to 18 with a value above 255");
-            }
-            op::GATE_CALL if context(&self.before) == 0 => self.count_gate_call(census, i),
-            _ => {}
+        if let op::RAISE..=op::UPCALL = i.op() {
+            let takes_c = i.op() >= op::SET_PAIR;
+            let large = registers[i.b()].value > 255 || takes_c && registers[i.c()].value > 255;
+            census.note_if(large, "ops 15 to 18 with a value above 255");
         }
     }
 
@@ -296,18 +293,29 @@ impl Moment {
         }
     }
 
-    /// Counts the reasons, all that hold, for which a gate call fails with no
-    /// call open.
-    fn count_gate_call(&self, census: &mut Census, i: Instruction) {
-        let Machine { pair, gates, gate_count, registers, .. } = &self.before;
-        let number = registers[i.b()];
-        census.note_if(!number.label.flows_to(pair.pc), "gate call fails: Lb");
-        let Some(gate) = gates[..*gate_count].get(number.value as usize) else {
-            return census.note("gate call fails: no such gate");
+    /// Counts a gate call that fails for one reason alone. A gate's pc label flows
+    /// to its timing label, so that where the one is too high both are.
+    fn count_gate_call(&self, census: &mut Census, event: Event) {
+        let failed = self.op.filter(|(i, _)| i.op() == op::GATE_CALL && event == Event::Failed);
+        let Some((i, _)) = failed else {
+            return;
         };
-        census.note_if(!gate.pair.is_valid(), "gate call fails: its pair is not valid");
-        let flows = gate.pair.pc.flows_to(pair.pc) && gate.pair.timing.flows_to(pair.pc);
-        census.note_if(!flows, "gate call fails: its labels don't flow to p");
+        let Machine { pair, gates, gate_count, registers, first, .. } = &self.before;
+        let number = registers[i.b()];
+        let gate = gates[..*gate_count].get(number.value as usize).map(|gate| gate.pair);
+        let is_above = |label: Label| !label.flows_to(pair.pc);
+        let both = gate.is_some_and(|gate| is_above(gate.pc));
+        let reasons = [
+            (!first.is_empty(), "a call is open"),
+            (gate.is_none(), "no such gate"),
+            (!both && gate.is_some_and(|gate| is_above(gate.timing)), "the gate's timing label"),
+            (both, "both labels of the gate"),
+            (is_above(number.label), "Lb"),
+        ];
+        let mut holding = reasons.iter().filter(|(holds, _)| *holds);
+        if let (Some((_, name)), None) = (holding.next(), holding.next()) {
+            census.note(&format!("gate call fails by one test alone: {name}"));
+        }
     }
 
     /// Counts where a carried-out op comes from and which upcall it opens.

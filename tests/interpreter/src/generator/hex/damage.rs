@@ -192,10 +192,11 @@ fn break_first(random: &mut Random, text: &[u8], fault: LineFault) -> Vec<u8> {
 /// "any second line in it": of good form or not, ended or not, up to the greatest
 /// length that a text can have.
 fn second_line(random: &mut Random, first: &[u8]) -> Vec<u8> {
-    let lines: [&[u8]; 12] = [
+    let lines: [&[u8]; 13] = [
         first,
         b"M,8\n",
         b"G,0,240,240\n",
+        b"G,0,0,240\n",
         b"R,0,240,0\n",
         b"R,1,240,1\n",
         b"W,0,240,1\n",
