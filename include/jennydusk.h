@@ -11,7 +11,7 @@
 #include <stddef.h>
 #include <stdint.h>
 
-#define JENNYDUSK_VERSION "3.2.0"
+#define JENNYDUSK_VERSION "4.0.0"
 
 #ifdef __cplusplus
 extern "C" {
@@ -24,7 +24,8 @@ extern "C" {
 #define JENNYDUSK_LIMIT 1      /* ticks, 1 to 16777216 */
 #define JENNYDUSK_ERROR_PC 2   /* where a failed fetch goes on */
 #define JENNYDUSK_GATE_COUNT 3 /* 0 to 8 */
-#define JENNYDUSK_GATE(k) (4 + 3 * (k)) /* gate k, 0 to 7: its entry, pc label and timing label */
+#define JENNYDUSK_GATE(k) (4 + 3 * (k)) /* gate k, 0 to 7: its entry, pc label and timing label. The pair of each below
+                                         * the count is valid; the others' labels may be any */
 #define JENNYDUSK_PC 28
 #define JENNYDUSK_PC_LABEL 29
 #define JENNYDUSK_TIMING_LABEL 30
@@ -84,14 +85,15 @@ extern "C" {
                                    * line of an M text */
 #define JENNYDUSK_PAIR 5          /* the pair of the M line is not valid */
 #define JENNYDUSK_SHORT_MEMORY 6  /* words or labels shorter than the size */
-#define JENNYDUSK_NO_RECORD 7     /* the record is not well-formed, as where register 0 isn't value 0, label 240; or the
-                                   * buffer holds none: a word is outside its field's range, or a call's words are
-                                   * none */
+#define JENNYDUSK_NO_RECORD 7     /* the record is not well-formed, as where register 0 isn't value 0, label 240, or a
+                                   * gate below the count has no valid pair; or the buffer holds none: a word is
+                                   * outside its field's range, or a call's words are none */
 #define JENNYDUSK_SHORT_OUTPUT 8  /* the output is shorter than the listing */
 #define JENNYDUSK_ZERO_REGISTER 9 /* an R line for register 0, whatever it says */
 #define JENNYDUSK_TICK 10         /* the tick of a view is above the limit, which stands beside the number */
 #define JENNYDUSK_HEX_RECORD 11   /* a record of wrong form, type, sum or ending; the line of the HEX text */
 #define JENNYDUSK_HEX_BYTE 12     /* a byte outside the memory, or given twice; the line of the HEX text */
+#define JENNYDUSK_GATE_PAIR 13    /* the pair of a G line is not valid; tried after the line's other causes */
 #define JENNYDUSK_SHORT_BUFFER 255 /* the record's buffer is shorter than JENNYDUSK_SPAN, or the certificate's than
                                     * JENNYDUSK_CERTIFICATE_SPAN */
 
@@ -101,7 +103,7 @@ extern "C" {
  * that is too short, before it reads anything. */
 
 /* Loads a text. The record goes to its buffer, the memory to words and labels below the size. Answers a number, 0 to 6,
- * 9 or 255, and 256 times the line that was refused. A load sets the words of the gates that no line names to 0. */
+ * 9, 13 or 255, and 256 times the line that was refused. A load sets the words of the gates that no line names to 0. */
 uint64_t jennydusk_load(const uint8_t *text, size_t text_length, uint32_t *words, size_t words_length, uint8_t *labels,
                         size_t labels_length, uint64_t *record, size_t record_length);
 
@@ -172,7 +174,7 @@ uint64_t jennydusk_print_for(const uint64_t *record, size_t record_length, const
 /* Lists for a viewer's label the state of a text at a tick: loads it, runs it to the tick as jennydusk_run_to does, and
  * writes the listing as jennydusk_print_for does. Answers the first that holds of these:
  *
- *   a number of the load, 1 to 6 or 9, and 256 times the line that was refused; memory and output are left
+ *   a number of the load, 1 to 6, 9 or 13, and 256 times the line that was refused; memory and output are left
  *   JENNYDUSK_TICK and 256 times the limit: the tick is above the limit; memory is as loaded, the output is left
  *   JENNYDUSK_SHORT_OUTPUT and no count; memory is that of the tick, the output is left
  *   0 and 256 times the listing's length; memory is that of the tick
@@ -193,7 +195,7 @@ uint64_t jennydusk_view(const uint8_t *text, size_t text_length, uint8_t label, 
                         size_t output_length);
 
 /* Certifies a text at one label: loads it, and runs it to its end. The certificate goes to its buffer; words and labels
- * hold what the run leaves. Answers a number, 0 to 6, 9 or 255, and 256 times the line that was refused.
+ * hold what the run leaves. Answers a number, 0 to 6, 9, 13 or 255, and 256 times the line that was refused.
  *
  * With JENNYDUSK_NO_BREAK, nothing that is hidden from the label shows at it at any tick; with another cause, at none
  * below JENNYDUSK_BREAK_TICK. That holds for this text and for every other one of equal size, gates, error pc and limit

@@ -8,7 +8,7 @@ use crate::status::Failure;
 use std::fmt;
 
 /// The M line.
-#[derive(Clone, Copy, Debug, Default, PartialEq, Eq)]
+#[derive(Clone, Copy, Debug, PartialEq, Eq)]
 pub struct Machine {
     pub size: u32,
     pub error: u32,
@@ -102,7 +102,7 @@ mod tests {
 
     #[test]
     fn an_image_is_written_as_it_was_read() {
-        let text = "M,8,7,4294967295,240,241,100\nG,9,255,0\nR,3,240,0\nW,0,34,17825797\n";
+        let text = "M,8,7,4294967295,240,241,100\nG,9,240,255\nR,3,240,0\nW,0,34,17825797\n";
         let lines = parse(text).expect("four lines");
         assert_eq!(lines.len(), 4);
         assert_eq!(written(lines.iter()), text);

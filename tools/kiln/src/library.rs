@@ -67,6 +67,8 @@ pub const TICK: u8 = 10;
 /// The refusals of a HEX text: a record that is none, a byte that can't be placed.
 pub const HEX_RECORD: u8 = 11;
 pub const HEX_BYTE: u8 = 12;
+/// The refusal of a G line whose pair isn't valid.
+pub const GATE_PAIR: u8 = 13;
 /// Longer than any listing, which has some 46,000 bytes at most.
 const LISTING: usize = 65_536;
 /// Longer than a listing without W lines, and than a W line.
@@ -86,6 +88,7 @@ extern "C" {
     fn jennydusk_view(text: *const u8, text_length: usize, label: u8, tick: u64, words: *mut u32, words_length: usize, labels: *mut u8, labels_length: usize, output: *mut u8, output_length: usize) -> u64;
     fn jennydusk_certify(label: u8, text: *const u8, text_length: usize, words: *mut u32, words_length: usize, labels: *mut u8, labels_length: usize, certificate: *mut u64, certificate_length: usize) -> u64;
     fn jennydusk_flows(from: u8, to: u8) -> bool;
+    fn jennydusk_is_valid_pair(pc: u8, timing: u8) -> bool;
 }
 
 /// Why a text is no image: the refusal's number and its line, of the HEX text for
@@ -406,11 +409,19 @@ pub fn flows(from: u8, to: u8) -> bool {
     unsafe { jennydusk_flows(from, to) }
 }
 
+/// Whether a pair is one that a machine or a gate may have.
+pub fn is_valid_pair(pair: Pair) -> bool {
+    // The call takes and gives values alone.
+    unsafe { jennydusk_is_valid_pair(pair.pc_label, pair.timing_label) }
+}
+
 #[cfg(test)]
 mod tests {
     use super::*;
 
     const HEADER: &str = include_str!("../../../include/jennydusk.h");
+    /// The refusal of an M line whose pair isn't valid.
+    const PAIR: u8 = 5;
 
     /// What the header gives as a name's value, without a comment.
     fn defined(name: &str) -> &'static str {
@@ -466,10 +477,31 @@ mod tests {
             ("TICK", TICK.into()),
             ("HEX_RECORD", HEX_RECORD.into()),
             ("HEX_BYTE", HEX_BYTE.into()),
+            ("GATE_PAIR", GATE_PAIR.into()),
             ("HIGHEST", HIGHEST.into()),
         ];
         for (name, number) in numbers {
             assert_eq!(defined(name), number.to_string(), "{name}");
+        }
+    }
+
+    /// Why an image with a pair of its own and a gate with another one is refused.
+    fn refusal_with(own: Pair, gate: Pair) -> Option<Refusal> {
+        let fields = |pair: Pair| format!("{},{}", pair.pc_label, pair.timing_label);
+        let text = format!("M,1,0,0,{},1\nG,0,{}\n", fields(own), fields(gate));
+        Machine::load(text.as_bytes()).err()
+    }
+
+    #[test]
+    fn the_loader_takes_valid_pairs_alone() {
+        let lowest = pair(240, 240);
+        for both in 0..=u16::MAX {
+            let [pc_label, timing_label] = both.to_be_bytes();
+            let pair = Pair { pc_label, timing_label };
+            let refused =
+                |number, beside| (!is_valid_pair(pair)).then_some(Refusal { number, beside });
+            assert_eq!(refusal_with(pair, lowest), refused(PAIR, 1), "{pair:?}");
+            assert_eq!(refusal_with(lowest, pair), refused(GATE_PAIR, 2), "{pair:?}");
         }
     }
 }

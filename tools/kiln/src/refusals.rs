@@ -3,7 +3,7 @@
 //! line shows which.
 
 use crate::files;
-use crate::library::{Refusal, HEX_BYTE, HEX_RECORD, TEXT, TICK};
+use crate::library::{Refusal, GATE_PAIR, HEX_BYTE, HEX_RECORD, TEXT, TICK};
 use crate::records;
 use crate::status::Failure;
 
@@ -55,6 +55,7 @@ pub fn cause(text: &[u8], refusal: &Refusal) -> &'static str {
         TICK => "the tick is above the limit",
         HEX_RECORD => records::malformed(text, refusal.beside),
         HEX_BYTE => records::misplaced(text, refusal.beside),
+        GATE_PAIR => "the gate's pair isn't valid",
         _ => "the library knows why",
     }
 }

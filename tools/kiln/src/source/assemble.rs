@@ -5,7 +5,8 @@ use super::layout::{layout, Content, Directive, Layout, Word};
 use super::parser::{self, Argument, Operand, Statement};
 use super::{Definition, Error, Position};
 use crate::image::{self, Cell, Gate, Line, Machine};
-use crate::library;
+use crate::labels::LOWEST;
+use crate::library::{self, Pair};
 use crate::ops::{Op, Piece};
 use crate::refusals;
 use std::collections::BTreeMap;
@@ -53,6 +54,9 @@ struct Assembler<'a, 'b> {
     taken: BTreeMap<u32, usize>,
 }
 
+/// What stands in the line of a gate whose pair is wrong.
+const LOWEST_PAIR: Pair = Pair { pc_label: LOWEST, timing_label: LOWEST };
+
 /// Registers by number or words by address.
 type Cells = BTreeMap<u32, Origin>;
 
@@ -86,35 +90,39 @@ impl<'a, 'b> Assembler<'a, 'b> {
                 .push(Error::new(start, "there is no `.machine` in this source"));
         };
         self.context.size = fields::size(givens, self.context.names);
-        let values = self.context.fields(at, givens, &fields::MACHINE);
-        if let [_, _, _, Some(p), Some(t), _] = values {
-            self.check_pair(at, label(p), label(t));
-        }
-        let [Some(size), Some(error), Some(start), Some(p), Some(t), Some(limit)] = values else {
+        let [size, error, start, p, t, limit] = self.context.fields(at, givens, &fields::MACHINE);
+        let pair = self.pair(at, "the pair", p.zip(t));
+        let (Some(size), Some(error), Some(start), Some(pair), Some(limit)) =
+            (size, error, start, pair, limit)
+        else {
             return;
         };
-        let machine = Machine { size, error, start, p: label(p), t: label(t), limit };
+        let Pair { pc_label: p, timing_label: t } = pair;
+        let machine = Machine { size, error, start, p, t, limit };
         self.lines.push(Origin { line: Line::Machine(machine), at, op: None });
     }
 
-    /// Asks the loader about the pair, whatever is wrong with the other fields.
-    /// A gate's pair need not be valid: the call tries it.
-    fn check_pair(&mut self, at: Position, p: u8, t: u8) {
-        let smallest = Line::Machine(Machine { size: 1, limit: 1, p, t, ..Machine::default() });
-        let text = image::written([smallest].iter());
-        if library::Machine::load(text.as_bytes()).is_err() {
-            let message = format!(
-                "the pair {p}, {t} isn't valid: p and t must be sound, and p must flow to t"
-            );
+    /// A valid pair; or none, and an error if its labels are right.
+    fn pair(&mut self, at: Position, name: &str, labels: Option<(u32, u32)>) -> Option<Pair> {
+        let (p, t) = labels?;
+        let pair = Pair { pc_label: label(p), timing_label: label(t) };
+        let is_valid = library::is_valid_pair(pair);
+        if !is_valid {
+            let message =
+                format!("{name} {p}, {t} isn't valid: p and t must be sound, and p must flow to t");
             self.context.errors.push(Error::new(at, message));
         }
+        is_valid.then_some(pair)
     }
 
+    /// A gate that is wrong has a line, too, which the loader takes: so gates are
+    /// counted, and the loader is asked about the lines behind it.
     fn gate(&mut self, directive: &Directive) {
         let Directive { at, givens } = *directive;
         let [place, p, t] = self.context.fields(at, givens, &fields::GATE);
-        let [place, p, t] = [place, p, t].map(Option::unwrap_or_default);
-        let gate = Gate { place, p: label(p), t: label(t) };
+        let pair = self.pair(at, "the gate's pair", p.zip(t)).unwrap_or(LOWEST_PAIR);
+        let Pair { pc_label: p, timing_label: t } = pair;
+        let gate = Gate { place: place.unwrap_or_default(), p, t };
         self.lines.push(Origin { line: Line::Gate(gate), at, op: None });
     }
 
