@@ -1,14 +1,15 @@
 -- The laws of labels over any number n of principals: flow is an order with join, meet, a lowest and a highest label,
--- reflection turns it round, and what the rules for raising and relabelling allow. Assumes nothing.
+-- reflection turns it round, what the rules for raising and relabelling allow, and what is trusted and secret.
+-- Assumes nothing.
 use Prim.Native.Nat.{ℕ, _+_, _-_, _^_, _<_}
-use mathlib.Core.Path.{_≡_, refl, sym, ap₂, _∙_}
-use mathlib.Core.Bool.{Bool, true, false, _&&_, and-false, and-comm, and-self, and-eq-true-iff}
+use mathlib.Core.Path.{_≡_, refl, sym, ap, ap₂, _∙_}
+use mathlib.Core.Bool.{Bool, true, false, not, _&&_, and-false, and-comm, and-self, and-eq-true-iff}
 use native.Mathlib.Nat.{mod-lt, mod-eq-of-lt}
 use lib.Arith.{digits-lt}
 use lib.Bits.{bitAnd, bitOr, and-lt, or-lt, and-mask}
 use lib.Pow.{pow-pos, pow-add, split, high, low, shr-lt, ones-lt}
 use borrow.Author.Tests.{eq-eqb}
-use Rattle.labels.specs.Principals.{subset, label, integrity, confidentiality, flows, join, meet, reflection, uncompromised, validPair, lowest, highest, mayRaise, mayRelabel}
+use Rattle.labels.specs.Principals.{subset, label, integrity, confidentiality, flows, join, meet, reflection, uncompromised, validPair, lowest, highest, mayRaise, mayRelabel, trusted, secret}
 use Rattle.labels.proofs.Subset.{same-truth, subset-refl, subset-trans, subset-antisym, subset-and, subset-or}
 
 -- l flows to m.
@@ -297,6 +298,11 @@ unfolding mayRelabel
 relabel-reflected n p l m e =
     record { holds = three (flows n p (meet n l m)) (uncompromised n l) (flows n m (reflection n p)) e .2 }
 
+-- What may be relabelled is sound.
+pub relabel-uncompromised : (n p l m : ℕ) → mayRelabel n p l m ≡ true → uncompromised n l ≡ true
+unfolding mayRelabel
+relabel-uncompromised n p l m e = three (flows n p (meet n l m)) (uncompromised n l) (flows n m (reflection n p)) e .1
+
 -- The parts of a valid pair.
 valid-parts : (n p t : ℕ) → validPair n p t ≡ true → (flows n p t ≡ true) × (uncompromised n p ≡ true) × (uncompromised n t ≡ true)
 unfolding validPair
@@ -313,6 +319,34 @@ valid-uncompromised-pc n p t e = valid-parts n p t e .1
 -- The timing label of a valid pair is sound.
 pub valid-uncompromised-timing : (n p t : ℕ) → validPair n p t ≡ true → uncompromised n t ≡ true
 valid-uncompromised-timing n p t e = valid-parts n p t e .2
+
+-- ---- what is trusted, and what is secret
+
+-- What flows to something trusted is trusted.
+pub trusted-below : {n l m : ℕ} (j : ℕ) → Flows n l m → trusted n j m ≡ true → trusted n j l ≡ true
+unfolding trusted
+trusted-below {n} {l} {m} j f e = go (subset (integrity n l) j) refl
+  where
+    go : (b : Bool) → subset (integrity n l) j ≡ b → not b ≡ true
+    go true k = sym (ap not (subset-trans (integrity n m) (integrity n l) j (halves f .0) k)) ∙ e
+    go false k = refl
+
+-- What something secret flows to is secret.
+pub secret-above : {n l m : ℕ} (s : ℕ) → Flows n l m → secret n s l ≡ true → secret n s m ≡ true
+unfolding secret
+secret-above {n} {l} {m} s f e = subset-trans s (confidentiality n l) (confidentiality n m) e (halves f .1)
+
+-- A sound label that is secret to s is trusted, where s isn't within j: s lies within its c, and that within its i.
+pub secret-trusted : (n j s l : ℕ) → subset s j ≡ false → uncompromised n l ≡ true → secret n s l ≡ true → trusted n j l ≡ true
+unfolding trusted secret uncompromised
+secret-trusted n j s l o u e = go (subset (integrity n l) j) refl
+  where
+    inside : subset s (integrity n l) ≡ true
+    inside = subset-trans s (confidentiality n l) (integrity n l) e u
+
+    go : (b : Bool) → subset (integrity n l) j ≡ b → not b ≡ true
+    go true k = sym o ∙ subset-trans s (integrity n l) j inside k
+    go false k = refl
 
 -- ---- bounds
 

@@ -51,3 +51,11 @@ mayRaise = over.mayRaise principals
 -- l may be relabelled to m under p.
 abbrev pub mayRelabel : ℕ → ℕ → ℕ → Bool
 mayRelabel = over.mayRelabel principals
+
+-- l is trusted, where a person is trusted with the set j.
+abbrev pub trusted : ℕ → ℕ → Bool
+trusted = over.trusted principals
+
+-- l is secret, where a person is shut out from the secrets of the set s.
+abbrev pub secret : ℕ → ℕ → Bool
+secret = over.secret principals

@@ -3,7 +3,7 @@
 -- may hold) are sets of principals, one bit each.
 -- Assumes nothing.
 use Prim.Native.Nat.{ℕ, _+_, _-_, _*_, _/_, _%_, _^_}
-use mathlib.Core.Bool.{Bool, _&&_}
+use mathlib.Core.Bool.{Bool, not, _&&_}
 use lib.Bits.{bitAnd, bitOr}
 use lib.Dec.{eqb}
 
@@ -63,3 +63,11 @@ module _ (n : ℕ) where
   -- Relabel of l to m under p: p flows to the meet of l and m, l is sound, m flows to the reflection of p.
   unfoldable pub mayRelabel : ℕ → ℕ → ℕ → Bool
   mayRelabel p l m = flows p (meet l m) && uncompromised l && flows m (reflection p)
+
+  -- Trusted, where a person is trusted with the set j: i isn't within j.
+  unfoldable pub trusted : ℕ → ℕ → Bool
+  trusted j l = not (subset (integrity l) j)
+
+  -- Secret, where a person is shut out from the secrets of the set s: c includes s.
+  unfoldable pub secret : ℕ → ℕ → Bool
+  secret s l = subset s (confidentiality l)

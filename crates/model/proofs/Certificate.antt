@@ -1,7 +1,7 @@
--- The theorems on certificates: specs/Certificate.antt states them. The files below this one prove them: Release takes a
+-- The theorems on certificates: specs/Certificate.antt states them. The files below this one prove them: Attempts takes a
 -- step that attempts no release, Watch the first break of one run, and Twin shows that alike machines have one first break.
 -- Assumes nothing.
-pub mod Release
+pub mod Attempts
 pub mod Watch
 pub mod Twin
 use Prim.Native.Nat.{ℕ, zero, suc, _<_, _≤_}
@@ -27,7 +27,7 @@ use Rattle.model.proofs.Noninterference.{loaded-outside, from-loaded-st
 use Rattle.model.proofs.Noninterference.Visible.{setting-sym}
 use Rattle.model.proofs.Noninterference.Paths.{Both}
 use Rattle.model.proofs.Noninterference.Trace.{path, trace-row}
-use Rattle.model.proofs.Certificate.Release.{step-provisos}
+use Rattle.model.proofs.Certificate.Attempts.{step-provisos}
 use Rattle.model.proofs.Certificate.Watch.{Breaks, break-cause, breaks-cause, certify-breaks, certify-found, certify-broken, certified-until, certified-unbroken, certified-step, uncertified}
 use Rattle.model.proofs.Certificate.Twin.{twin-breaks, first-twins, first-broken}
 

@@ -2,7 +2,7 @@
 -- Assumes nothing.
 use mathlib.Core.Path.{_≡_, refl}
 use mathlib.Core.Bool.{Bool, true}
-use Rattle.labels.specs.Principals.{subset, label, integrity, confidentiality, flows, join, meet, reflection, uncompromised, validPair, lowest, mayRaise, mayRelabel}
+use Rattle.labels.specs.Principals.{subset, label, integrity, confidentiality, flows, join, meet, reflection, uncompromised, validPair, lowest, mayRaise, mayRelabel, trusted, secret}
 use Rattle.causes.specs.Tests.{firstRefusal}
 use Rattle.model.specs.Record.{newest, inUpcall, valueAt, labelAt}
 use Rattle.model.specs.WellFormed.{fixedInRange, endInRange, upcallWellFormed, zeroReads, gatesValid, wellFormed, lentWhole}
@@ -16,7 +16,7 @@ use Rattle.model.specs.Facts.{facts, every}
 
 -- All that a step computes with: the definitions of labels too. Who says `unfolding stepping` opens each of them.
 unfoldable pub stepping : Bool
-unfolding subset label integrity confidentiality flows join meet reflection uncompromised validPair lowest mayRaise mayRelabel newest inUpcall valueAt labelAt fixedInRange endInRange upcallWellFormed zeroReads gatesValid wellFormed lentWhole opField aField bField cField dField nField decode compute writable isLabel significantBits multiplyCount multiplyTicks newPairAllowed mayUpcall mayCallGate mayReturn table fetch endTick finish fault attempt beyondLimit inLimit running decide written causeAllowed causeWrite writeOf restored changed controlAfter apply step steps run leadingZeros
+unfolding subset label integrity confidentiality flows join meet reflection uncompromised validPair lowest mayRaise mayRelabel trusted secret newest inUpcall valueAt labelAt fixedInRange endInRange upcallWellFormed zeroReads gatesValid wellFormed lentWhole opField aField bField cField dField nField decode compute writable isLabel significantBits multiplyCount multiplyTicks newPairAllowed mayUpcall mayCallGate mayReturn table fetch endTick finish fault attempt beyondLimit inLimit running decide written causeAllowed causeWrite writeOf restored changed controlAfter apply step steps run leadingZeros
 stepping = true
 
 -- Every row of the table.

@@ -44,13 +44,13 @@ module _ (s : State) where
   abbrev timingLabel : ℕ
   timingLabel = s .control .pair .timing
 
-  -- A write under the pc label p: its location exists and isn't register 0, p flows to the label that stands there and to
-  -- the one that is set, a value has 32 bits, and what is set as a label is one.
+  -- A write under the pc label p: its location exists and isn't register 0. For a value, p flows to the label that stands
+  -- there, and it has 32 bits; for a label, a rule allows it, and it is one.
   pub data LegalWrite : Write → Type 0 where
     keeps : LegalWrite nothing
     sets : {x : Location} {v : ℕ} → Inside s x → Writable x → pcLabel ⊑ labelAt s x → v < 2 ^ 32 → LegalWrite (value x v)
-    marks : {x : Location} {l : ℕ} → Inside s x → Writable x → pcLabel ⊑ labelAt s x → pcLabel ⊑ l → l < labelCount
-        → LegalWrite (label x l)
+    marks : {x : Location} {l : ℕ} → Inside s x → Writable x → (f : Rule) → allows f pcLabel (labelAt s x) l ≡ true
+        → l < labelCount → LegalWrite (label x l)
 
   -- An upcall that keeps the end tick e under the new pair q, in so many ticks.
   pub record LegalUpcall (q : Pair) (e ticks : ℕ) : Type 0 where
@@ -94,6 +94,13 @@ module _ (s : State) where
   pub record LegalRow (r : Row) : Type 0 where
     pub long : 1 ≤ r .ticks
     pub passes : r .check ≡ true → LegalEffect (r .ticks) (r .effect)
+
+-- ---- the rules
+
+-- Ops 15 and 16: the rule implies that p flows to the old label and to the new one.
+pub allowed : (f : Rule) (p l m : ℕ) → allows f p l m ≡ true → (p ⊑ l) × (p ⊑ m)
+allowed raise p l m e = (raise-flows-old _ p l m e, raise-flows-new _ p l m e)
+allowed relabel p l m e = (relabel-flows-old _ p l m e, relabel-flows-new _ p l m e)
 
 -- ---- numbers
 
@@ -173,11 +180,6 @@ module _ (s : State) (ready : Ready s) (w : ℕ) where
       → LegalEffect s ticks (does (write (value (register (aField w)) v)))
   sets-a k h lt = carried (writes (sets a-inside (writable-register _ k) h lt))
 
-  -- Ops 15 and 16: the rule implies that p flows to the old label and to the new one.
-  allowed : (f : Rule) (p l m : ℕ) → allows f p l m ≡ true → (p ⊑ l) × (p ⊑ m)
-  allowed raise p l m e = (raise-flows-old _ p l m e, raise-flows-new _ p l m e)
-  allowed relabel p l m e = (relabel-flows-old _ p l m e, relabel-flows-new _ p l m e)
-
   -- Every row is legal.
   row-legal : (op : Op) → LegalRow s (table s w op)
   unfolding table newPairAllowed mayUpcall mayCallGate mayReturn
@@ -216,8 +218,7 @@ module _ (s : State) (ready : Ready s) (w : ℕ) where
       record {
         long = lit≤ tt;
         passes = λ e. let h = simp and-iff at e in
-            let r = allowed f _ _ _ (h .0 .0 .1) in
-            carried (writes (marks a-inside (writable-register _ (h .1)) (r .0) (r .1) (label-lt _ (h .0 .0 .0))));
+            carried (writes (marks a-inside (writable-register _ (h .1)) f (h .0 .0 .1) (label-lt _ (h .0 .0 .0))));
       }
   row-legal setPair =
       record {

@@ -14,6 +14,8 @@ pub mod PairTest
 pub mod Facts
 pub mod HexFacts
 pub mod Noninterference
+pub mod Relabelling
+pub mod Release
 pub mod Multiply
 pub mod View
 pub mod Certificate

@@ -37,7 +37,7 @@ use Rattle.model.specs.Text.{readLine}
 use Rattle.model.specs.Load.{machineOfHeader, withGate, withRegister, withEntry, withLine, headerInRange, gateInRange, entryInRange, headerTests, lineTests, behindHeader, lastOf, Verdict, refuse, accept, tried, _andThen_, judgeM, judgeFirst, judgeHeader, judge, linesBehind, judgeText, cleared, withWord, fill, settle, load}
 use Rattle.model.specs.Program.{stateOfLoad}
 use Rattle.model.proofs.Truth.{choice, and-iff, clash}
-use Rattle.model.proofs.Ready.{FixedFit, none, fit, fits, whole-lengths, whole-lent, Ready}
+use Rattle.model.proofs.Ready.{FixedFit, none, fits, whole-lent, Ready, ready}
 use Rattle.model.proofs.Writes.{set-at, zero-left}
 use Rattle.model.proofs.Legal.{writable-register}
 use Rattle.model.proofs.Step.{value-typed, label-typed}
@@ -481,6 +481,4 @@ module _ (m : Bank) (words : 2048 ≤ length (m .values)) (labels : 2048 ≤ len
 
 -- A loaded state is ready.
 pub loaded-ready : (s : State) → Loaded s → Ready s
-loaded-ready s l =
-    let h = whole-lengths _ (s .memory) (l .lent) in
-    record { fit = fit (machineOf s) (l .wellFormed); typed = l .typed; words = h .0; labels = h .1 }
+loaded-ready s l = ready s (l .typed) (l .wellFormed) (l .lent)

@@ -17,7 +17,7 @@ use Rattle.model.specs.Step.{Fetched, failed, fetched, Decision, rest, f
 use Rattle.model.specs.Answer.{work, answer}
 use Rattle.model.specs.PairTest.{pairTest, tableTested, planTested, decideTested, stepTested, stepsTested, stepsByTested, workTested, PairTestSpared}
 use Rattle.model.proofs.Truth.{choice, either, and-iff}
-use Rattle.model.proofs.Ready.{fit, fits, whole-lengths, Ready}
+use Rattle.model.proofs.Ready.{fits, Ready, ready}
 use Rattle.model.proofs.Step.{step-ready}
 use Rattle.model.proofs.Run.{run-ready}
 use Rattle.model.proofs.RunTo.{run-to-ready}
@@ -107,11 +107,10 @@ unfolding answer
 pair-test-spared q r m t f =
     ⊎-elim
     (λ (l : lentWhole (r .fixed .size) m ≡ true).
-    let h = whole-lengths (r .fixed .size) m l in
-    let ready : Ready (stateOf r m) = record { fit = fit r f; typed = t; words = h .0; labels = h .1 } in
+    let h = ready (stateOf r m) t f l in
     record {
-      same = rw (f, l, same-work q (stateOf r m) ready);
-      wellFormed = rw (f, l) (fits _ (work-ready q (stateOf r m) ready .fit));
+      same = rw (f, l, same-work q (stateOf r m) h);
+      wellFormed = rw (f, l) (fits _ (work-ready q (stateOf r m) h .fit));
     })
     (λ (l : lentWhole (r .fixed .size) m ≡ false). record { same = rw (f, l); wellFormed = rw (f, l) f })
     (either (lentWhole (r .fixed .size) m))

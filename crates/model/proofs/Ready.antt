@@ -175,6 +175,12 @@ pub record Ready (s : State) : Type 0 where
   pub words : s .fixed .size ≤ length (s .memory .values)
   pub labels : s .fixed .size ≤ length (s .memory .labels)
 
+-- A well-formed record whose lists are as the types say, lent its whole memory, is ready.
+pub ready : (s : State) → Typed s → wellFormed (machineOf s) ≡ true → lentWhole (s .fixed .size) (s .memory) ≡ true → Ready s
+ready s t f l =
+    let h = whole-lengths (s .fixed .size) (s .memory) l in
+    record { fit = fit (machineOf s) f; typed = t; words = h .0; labels = h .1 }
+
 -- Register 0 reads 0 with the lowest label.
 pub zero-reads : (s : State) → Ready s
     → (valueAt s (register zeroRegister) ≡ 0) × (labelAt s (register zeroRegister) ≡ lowest)

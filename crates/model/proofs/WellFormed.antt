@@ -18,7 +18,7 @@ use Rattle.model.specs.Step.{Decision, endTick, decide, writeOf, restore
 use Rattle.model.proofs.Truth.{clash}
 use Rattle.model.proofs.Writes.{written-fixed}
 use Rattle.model.proofs.Ready.{_⊑_, UpcallFit, CallsFit, none, gate, upcall, both, Fit}
-use Rattle.model.proofs.Legal.{LegalChange, writes, goes, enters, calls, gates, returns, stops, Legal, rests, spends, stalls, closes, carries, legal}
+use Rattle.model.proofs.Legal.{LegalChange, writes, goes, enters, calls, gates, returns, stops, Legal, rests, spends, stalls, closes, carries}
 
 -- The newest of two calls.
 abbrev top : Call → Call → Call

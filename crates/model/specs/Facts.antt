@@ -1,13 +1,13 @@
 -- What the definitions are held against: the starred facts of document 01, "Firings to check", and behind them facts of
--- divisions and of gates whose pair isn't valid, as one table, each row a test that proofs/Facts.antt has the checker
--- compute; and document 01's own rule for the ticks of op 8, which proofs/Multiply.antt proves of every state.
+-- divisions, of gates whose pair isn't valid, and of releases, as one table, each row a test that proofs/Facts.antt has
+-- the checker compute; and document 01's own rule for the ticks of op 8, which proofs/Multiply.antt proves of every state.
 -- Assumes nothing.
 use Prim.Native.Nat.{ℕ, zero, suc, _+_, _-_, _*_, _/_, _%_, _^_}
 use mathlib.Core.Bool.{Bool, true, not, _&&_, cond}
 use mathlib.Core.List.{List, [], _∷_}
 use lib.Dec.{eqb}
 use lib.ListN.{replicate}
-use Rattle.labels.specs.Label.{flows, join, meet, uncompromised, mayRaise, mayRelabel, lowest}
+use Rattle.labels.specs.Label.{flows, join, meet, uncompromised, mayRaise, mayRelabel, lowest, trusted, secret}
 use Rattle.causes.specs.Causes.{numberOf}
 use Rattle.causes.specs.Tests.{firstRefusal}
 use Rattle.model.specs.declared.Pair.{Pair}
@@ -16,7 +16,7 @@ use Rattle.model.specs.declared.Call.the-variants.{Empty}
 use Rattle.model.specs.declared.format.Line.{Line}
 use Rattle.model.specs.declared.format.Line.the-variants.{G, R}
 use Rattle.model.specs.declared.judging.Last.{Last}
-use Rattle.model.specs.Record.{State, register, valueAt, machineOf, isEmpty, isGate, newest}
+use Rattle.model.specs.Record.{State, register, valueAt, labelAt, machineOf, isEmpty, isGate, newest}
 use Rattle.model.specs.Word.{multiply}
 use Rattle.model.specs.WellFormed.{noGate, wellFormed}
 use Rattle.model.specs.Ops.{significantBits, arithmeticTicks}
@@ -136,9 +136,27 @@ passedBy s = isEmpty (newest (s .control)) && eqb (s .control .pc) 1 && eqb (s .
 abbrev pub refusalOf : ℕ → Last → Line → ℕ
 refusalOf count last l = numberOf (firstRefusal (lineTests 8 count last l))
 
+-- ---- releases
+
+-- A machine at op 16, which relabels register 1 from l to the label m that stands in register 2 under the label k. Its pair
+-- is p twice.
+abbrev pub atRelabel : ℕ → ℕ → ℕ → ℕ → State
+atRelabel p l k m =
+    let s = machine 0 m 0 0 (wordOf 16 1 2 0) 0 in
+    record {
+      fixed = s .fixed;
+      control = entered (s .control) 10 0 (record { pc = p; timing = p });
+      registers = record { values = s .registers .values; labels = lowest ∷ l ∷ k ∷ replicate 13 lowest };
+      memory = s .memory;
+    }
+
+-- Its step sets the label.
+abbrev pub relabels : ℕ → ℕ → ℕ → ℕ → Bool
+relabels p l k m = eqb (labelAt (step (atRelabel p l k m)) (register 1)) m
+
 -- ---- the table
 
--- The starred facts, and behind them those of divisions and of gates.
+-- The starred facts, and behind them those of divisions, of gates and of releases.
 abbrev pub facts : List Bool
 facts =
     -- 255 to 15 flows; 255 to 0 doesn't
@@ -199,6 +217,22 @@ facts =
     ∷ eqb (refusalOf 7 (lastOf (R 1 240 0)) (G 0 1 1)) 4
     ∷ eqb (refusalOf 7 behindHeader (G 0 1 256)) 3
     ∷ eqb (refusalOf 8 behindHeader (G 0 1 1)) 3
+    -- to one trusted with {1} labels trusted by {1, 2} and by {2} are trusted, by {1} and by none aren't; with all, none is
+    ∷ trusted 1 48
+    ∷ trusted 1 32
+    ∷ not (trusted 1 16)
+    ∷ not (trusted 1 0)
+    ∷ not (trusted 15 240)
+    -- to one shut out from {1, 2} labels with the secrets of {1, 2} and of more are secret, of {1} aren't; from none, all are
+    ∷ secret 3 243
+    ∷ secret 3 255
+    ∷ not (secret 3 241)
+    ∷ secret 0 240
+    -- op 16 from 242 to 240 under 240; not from 15, which isn't sound, to 0 under 0; nor where the register that holds the new
+    -- label has the label 16, which doesn't flow to 240
+    ∷ relabels 240 242 240 240
+    ∷ not (relabels 0 15 240 0)
+    ∷ not (relabels 240 242 16 240)
     ∷ []
 
 -- Every test of a list passes.

@@ -23,9 +23,13 @@ pub data Seen : Type 0 where
   hidden : Seen
   shown : ℕ → ℕ → Seen
 
--- At ℓ one sees which registers and words below the size have labels flowing to ℓ, with labels and values.
-unfoldable pub seenAt : ℕ → State → Location → Seen
-seenAt ℓ s x = cond (exists s x && within ℓ (labelAt s x)) (shown (labelAt s x) (valueAt s x)) hidden
+-- One who sees the labels that pass a test sees which registers and words below the size have them, with labels and values.
+unfoldable pub seenBy : (ℕ → Bool) → State → Location → Seen
+seenBy sees s x = cond (exists s x && sees (labelAt s x)) (shown (labelAt s x) (valueAt s x)) hidden
+
+-- At ℓ one sees the labels flowing to ℓ.
+abbrev pub seenAt : ℕ → State → Location → Seen
+seenAt ℓ = seenBy (within ℓ)
 
 -- What is seen of the control: nothing, or all of it, which is pc, pair, clock, both places for open calls, end and why.
 pub data SeenControl : Type 0 where

@@ -21,7 +21,7 @@ use Rattle.model.specs.Record.{Bank, Machine, State, Location, register, word, 
 use Rattle.model.specs.Word.{Op, immediate, arithmetic, load as loadWord, store, branch, jump, readClock, setLabel, setPair, upcall, endUpcall, gateCall, gateReturn, halt}
 use Rattle.model.specs.Ops.{Write, nothing, value, label, newPairAllowed, mayUpcall, mayCallGate, mayReturn, Rb, table}
 use Rattle.model.specs.Step.{Fetched, failed, fetched, fetch, Decision, rest, spend, stall, close, carry, endTick, finish, fault, attempt, inTime, plan, beyondLimit, inLimit, running, decide, written, causeAllowed, causeWrite, writeOf, controlAfter, withControl, apply, step, steps, run, finishesBy, stepBy, stepsBy, runTo}
-use Rattle.model.specs.Seen.{exists, seenAt, seenControl, LowEquivalent}
+use Rattle.model.specs.Seen.{exists, seenBy, seenAt, seenControl, LowEquivalent}
 use Rattle.model.specs.Listing.{listingFor, listing}
 use Rattle.model.specs.declared.format.Line.{Line}
 use Rattle.model.specs.declared.format.Line.the-variants.{M, G, R, W, Malformed}
@@ -268,7 +268,7 @@ run-to-alike k s t h x y =
 
 -- Every label sees the same of both: of memory only what lies below the size.
 sight-both : (ℓ : ℕ) (r : Machine) (m n : Bank) → Agree (r .fixed .size) m n → LowEquivalent ℓ (stateOf r m) (stateOf r n)
-unfolding seenAt exists valueAt labelAt seenControl
+unfolding seenBy exists valueAt labelAt seenControl
 sight-both ℓ r m n a = record { locations = at-location; control = refl }
   where
     at-location : (x : Location) → seenAt ℓ (stateOf r m) x ≡ seenAt ℓ (stateOf r n) x

@@ -16,7 +16,7 @@ use Rattle.model.specs.declared.Call.{Call}
 use Rattle.model.specs.declared.Call.the-variants.{Empty, Gate, Upcall}
 use Rattle.model.specs.Record.{Bank, State, register, word, valueAt, labelAt}
 use Rattle.model.specs.Numbers.{letterH, letterR, letterW, registerCount, mostWords}
-use Rattle.model.specs.Seen.{within, exists, Seen, hidden, shown, seenAt, SeenControl, unseen, seen, seenControl}
+use Rattle.model.specs.Seen.{within, exists, Seen, hidden, shown, seenBy, seenAt, SeenControl, unseen, seen, seenControl}
 use Rattle.model.specs.Listing.{line, endFields, callLine, headLines, headFor, isListed, entryLine, entryFor, entryLines, listingFor, listing}
 use Rattle.texts.specs.Inner.Sight.{controlSeen, entrySeen, bankSeen, allSeen}
 use Rattle.texts.proofs.Fields.{line-most}
@@ -134,16 +134,16 @@ entries-hidden letter size f e j (suc n) h = rw (e j h, entries-hidden letter si
 
 -- What ℓ sees of a register is what it sees of the bank's entry, and so it is with a word below the size.
 register-seen : (ℓ : ℕ) (s : State) (k : ℕ) → k < registerCount → seenAt ℓ s (register k) ≡ bankSeen ℓ (s .registers) k
-unfolding seenAt exists valueAt labelAt entrySeen
+unfolding seenBy exists valueAt labelAt entrySeen
 register-seen ℓ s k h = rw (lt-ltb k registerCount h)
 
 word-seen : (ℓ : ℕ) (s : State) (k : ℕ) → k < s .fixed .size → seenAt ℓ s (word k) ≡ bankSeen ℓ (s .memory) k
-unfolding seenAt exists valueAt labelAt entrySeen
+unfolding seenBy exists valueAt labelAt entrySeen
 word-seen ℓ s k h = rw (lt-ltb k (s .fixed .size) h)
 
 -- It sees no other word.
 word-beyond : (ℓ : ℕ) (s : State) (k : ℕ) → s .fixed .size ≤ k → seenAt ℓ s (word k) ≡ hidden
-unfolding seenAt exists
+unfolding seenBy exists
 word-beyond ℓ s k h = rw (le-ltb k (s .fixed .size) h)
 
 -- The W lines are those of the words below the size.

@@ -23,15 +23,15 @@ use Rattle.model.specs.Seen.{within, seenControl}
 use Rattle.model.specs.Noninterference.{timedFromOutside, SameSetting}
 use Rattle.model.specs.Certificate.{isRelabelling, triesRelease, releases, attempts, leadsWithin, atLarge, Certificate, releaseFrom, breaks, breakAt}
 use Rattle.model.proofs.Truth.{either, clash, and-iff, not-iff, same-outcome}
-use Rattle.model.proofs.Ready.{_⊑_, Fit, Ready}
+use Rattle.model.proofs.Ready.{Fit, Ready}
 use Rattle.model.proofs.Legal.{LegalChange, writes, goes, enters, calls, gates, returns, stops, Legal, rests, spends, stalls, closes, carries, legal}
 use Rattle.model.proofs.WellFormed.{top-upcall, step-fixed, step-control}
 use Rattle.model.proofs.Step.{step-ready, step-ended, step-passes, end-tick-late}
-use Rattle.model.proofs.Noninterference.Sight.{Alike, alike-sym, alike-trans, flows-equal, flows-alike}
+use Rattle.model.proofs.Noninterference.Sight.{Alike, alike-sym, alike-trans, within-down, flows-equal, flows-alike}
 use Rattle.model.proofs.Noninterference.Hidden.{hidden-step, Lost, lost-decision, restored-closed, opened-upcall, opened-gate, Away, back, Still, Onward, still, returned, away-step}
 use Rattle.model.proofs.Noninterference.Visible.{setting-sym, Together, bare, fetch-same, decide-similar, a-exists, b-exists, visible-control, visible-alike}
 use Rattle.model.proofs.Noninterference.Paths.{Both, timing-within, Abroad, away, abroad, seen-control, setting-on, end-tick-same}
-use Rattle.model.proofs.Certificate.Release.{large, unbroken, step-provisos, within-on}
+use Rattle.model.proofs.Certificate.Attempts.{large, unbroken, step-provisos}
 use Rattle.model.proofs.Certificate.Watch.{Breaks, attempted, broken, later, ended-quiet}
 
 -- ---- a state from outside attempts nothing
@@ -62,42 +62,43 @@ carried-bare (carry ticks closeGate) = refl
 carried-bare (carry ticks stop) = refl
 
 -- Tried in the one it is tried in the other: the label outside is outside in both, and the rest can be seen.
-tries-there : {ℓ : ℕ} {c : Control} {a b : State} → Together ℓ c a b → (w : ℕ) → triesRelease ℓ (withControl a c) w ≡ true
+tries-there : (ℓ : ℕ) {c : Control} {a b : State} → Together (within ℓ) c a b → (w : ℕ) → triesRelease ℓ (withControl a c) w ≡ true
     → triesRelease ℓ (withControl b c) w ≡ true
 unfolding triesRelease within
-tries-there {ℓ} {c} {a} {b} h w e =
+tries-there ℓ {c} {a} {b} h w e =
     let one = withControl a c in
     let two = withControl b c in
     let k = simp (and-iff, not-iff) at e in
-    let la : flows (La one w) ℓ ≡ flows (La two w) ℓ = flows-alike (h .alike) (flows-refl principals ℓ) (register (aField w)) (a-exists one w) in
-    let lb = flows-equal (h .alike) (h .pc) (register (bField w)) (b-exists one w) (k .0 .0 .1) in
+    let la : flows (La one w) ℓ ≡ flows (La two w) ℓ = flows-alike (h .down) (h .alike) (flows-refl principals ℓ .holds) (register (aField w)) (a-exists one w) in
+    let lb = flows-equal (h .down) (h .alike) (h .pc) (register (bField w)) (b-exists one w) (k .0 .0 .1) in
     rw (← lb .0, ← lb .1, ← la) e
 
-tries-same : {ℓ : ℕ} {c : Control} {a b : State} → Together ℓ c a b → Together ℓ c b a → (w : ℕ)
+tries-same : (ℓ : ℕ) {c : Control} {a b : State} → Together (within ℓ) c a b → Together (within ℓ) c b a → (w : ℕ)
     → triesRelease ℓ (withControl a c) w ≡ triesRelease ℓ (withControl b c) w
-tries-same h k w = same-outcome _ _ (tries-there h w) (tries-there k w)
+tries-same ℓ h k w = same-outcome _ _ (tries-there ℓ h w) (tries-there ℓ k w)
 
-releases-same : {ℓ : ℕ} {c : Control} {a b : State} → Together ℓ c a b → Together ℓ c b a → (f : Fetched)
+releases-same : (ℓ : ℕ) {c : Control} {a b : State} → Together (within ℓ) c a b → Together (within ℓ) c b a → (f : Fetched)
     → releases ℓ (withControl a c) f ≡ releases ℓ (withControl b c) f
-releases-same h k (failed why) = refl
-releases-same h k (fetched w op) = ap (λ (x : Bool). isRelabelling op && x) (tries-same h k w)
+releases-same ℓ h k (failed why) = refl
+releases-same ℓ h k (fetched w op) = ap (λ (x : Bool). isRelabelling op && x) (tries-same ℓ h k w)
 
-together-attempts : {ℓ : ℕ} {c : Control} {a b : State} → Together ℓ c a b → Together ℓ c b a
-    → attempts ℓ (withControl a c) ≡ attempts ℓ (withControl b c)
+together-attempts : (ℓ : ℕ) {c : Control} {a b : State} → Together (within ℓ) c a b → Together (within ℓ) c b a
+    → within ℓ (c .pair .timing) ≡ true → attempts ℓ (withControl a c) ≡ attempts ℓ (withControl b c)
 unfolding attempts
-together-attempts {ℓ} {c} {a} {b} h k =
+together-attempts ℓ {c} {a} {b} h k m =
     ap₂ (λ (x y : Bool). x && y)
-    (sym (carried-bare (decide (withControl a c))) ∙ ap isCarried (decide-similar h .bare) ∙ carried-bare (decide (withControl b c)))
-    (releases-same h k (fetch (withControl a c)) ∙ ap (releases ℓ (withControl b c)) (fetch-same h))
+    (sym (carried-bare (decide (withControl a c))) ∙ ap isCarried (decide-similar h m .bare) ∙ carried-bare (decide (withControl b c)))
+    (releases-same ℓ h k (fetch (withControl a c)) ∙ ap (releases ℓ (withControl b c)) (fetch-same h))
 
 -- The same of two states with equal control.
-level-attempts : (ℓ : ℕ) (s t : State) → s .control ≡ t .control → s .control .pair .pc ⊑ ℓ → s .control .pair .timing ⊑ ℓ
-    → SameSetting s t → SameSetting t s → Alike ℓ s t → attempts ℓ s ≡ attempts ℓ t
+level-attempts : (ℓ : ℕ) (s t : State) → s .control ≡ t .control → within ℓ (s .control .pair .pc) ≡ true
+    → within ℓ (s .control .pair .timing) ≡ true → SameSetting s t → SameSetting t s → Alike (within ℓ) s t
+    → attempts ℓ s ≡ attempts ℓ t
 level-attempts ℓ s t e pc timing same back =
-    subst (λ (c : Control). Alike ℓ s (withControl t c) → attempts ℓ s ≡ attempts ℓ (withControl t c)) e
+    subst (λ (c : Control). Alike (within ℓ) s (withControl t c) → attempts ℓ s ≡ attempts ℓ (withControl t c)) e
     (λ al.
-    together-attempts (record { pc = pc; timing = timing; setting = same; alike = al })
-    (record { pc = pc; timing = timing; setting = back; alike = alike-sym al }))
+    together-attempts ℓ (record { down = within-down ℓ; pc = pc; setting = same; alike = al })
+    (record { down = within-down ℓ; pc = pc; setting = back; alike = alike-sym al }) timing)
 
 -- ---- states of one control and equal setting break alike
 
@@ -179,7 +180,7 @@ record Home (ℓ : ℕ) (s : State) : Type 0 where
   ready : Ready state
   control : state .control ≡ back (s .control .first) (s .control .second)
   fixed : state .fixed ≡ s .fixed
-  alike : Alike ℓ state s
+  alike : Alike (within ℓ) state s
   broken : breaks ℓ state ≡ true → Breaks ℓ s (breakAt ℓ state)
   whole : {c : Certificate} → breaks ℓ state ≡ false → Breaks ℓ state c → Breaks ℓ s c
 
@@ -249,7 +250,7 @@ module _ (ℓ : ℕ) (s : State) (f : Fit (machineOf s)) (i : within ℓ (s .con
   -- An upcall that was open before: what it keeps flows to p.
   kept-before : inUpcall (s .control) ≡ true → within ℓ (pairOf (newest (s .control)) .pc) ≡ true
   unfolding inUpcall newest
-  kept-before u = within-on ℓ (top-upcall (f .calls) u .pc) i
+  kept-before u = within-down ℓ .below (top-upcall (f .calls) u .pc) i
 
   kept-change : {ticks : ℕ} {c : Change} (k : ℕ) → LegalChange s ticks c → inUpcall (changed (s .control) k c) ≡ true
       → within ℓ (pairOf (newest (changed (s .control) k c)) .pc) ≡ true
@@ -282,7 +283,7 @@ kept-step ℓ s r i u = rw (step-control s) (kept-decision ℓ s (r .fit) i (leg
 -- or both outside for good with the gates shut.
 pub data Twin (ℓ : ℕ) (s t : State) : Type 0 where
   over : running t ≡ false → Twin ℓ s t
-  level : s .control ≡ t .control → s .control .pair .pc ⊑ ℓ → s .control .pair .timing ⊑ ℓ → Twin ℓ s t
+  level : s .control ≡ t .control → within ℓ (s .control .pair .pc) ≡ true → within ℓ (s .control .pair .timing) ≡ true → Twin ℓ s t
   gone : Away ℓ s → Away ℓ t → s .control .first ≡ t .control .first → s .control .second ≡ t .control .second → Twin ℓ s t
   lost : Lost ℓ (t .control) → Shut ℓ t → Twin ℓ s t
 
@@ -296,8 +297,7 @@ twins ℓ s t same e b k =
     (λ (r : running s ≡ true).
     ⊎-elim
     (λ (i : within ℓ (s .control .pair .pc) ≡ true).
-    level e (record { holds = unfold within in i })
-    (record { holds = unfold within in timing-within ℓ s (unbroken ℓ s b .1) i }))
+    level e i (timing-within ℓ s (unbroken ℓ s b .1) i))
     (λ (o : within ℓ (s .control .pair .pc) ≡ false).
     ⊎-elim
     (λ (h : Abroad ℓ (s .control)).
@@ -322,8 +322,8 @@ pub record Compared (ℓ : ℕ) (s t : State) : Type 0 where
   pub two : breaks ℓ t ≡ false
 
 -- Level: one step each.
-module _ (ℓ : ℕ) (s t : State) (h : Compared ℓ s t) (e : s .control ≡ t .control) (pc : s .control .pair .pc ⊑ ℓ)
-    (timing : s .control .pair .timing ⊑ ℓ)
+module _ (ℓ : ℕ) (s t : State) (h : Compared ℓ s t) (e : s .control ≡ t .control) (pc : within ℓ (s .control .pair .pc) ≡ true)
+    (timing : within ℓ (s .control .pair .timing) ≡ true)
   where
     abbrev both : Both ℓ s t
     both = h .both
@@ -367,7 +367,7 @@ module _ (ℓ : ℕ) (s t : State) (h : Compared ℓ s t) (e : s .control ≡ t 
 
     level-twins : breaks ℓ (step s) ≡ false → Twin ℓ (step s) (step t)
     unfolding within
-    level-twins b = twins ℓ (step s) (step t) level-setting level-control b (kept-step ℓ s (both .one) (pc .holds))
+    level-twins b = twins ℓ (step s) (step t) level-setting level-control b (kept-step ℓ s (both .one) pc)
 
 -- The second takes a step that nobody sees.
 unseen-step : {ℓ : ℕ} {s t : State} → Compared ℓ s t → within ℓ (t .control .pair .pc) ≡ false → breaks ℓ (step t) ≡ false
@@ -427,8 +427,8 @@ module _ (ℓ : ℕ) (s t : State) (h : Compared ℓ s t) (a : Away ℓ s) (b : 
     home-twins : breaks ℓ (step t) ≡ false → Twin ℓ (comes .state) (step t)
     unfolding within
     home-twins n =
-        level home-control (record { holds = home-within })
-        (record { holds = timing-within ℓ (comes .state) (unbroken ℓ (comes .state) (home-broken ∙ n) .1) home-within })
+        level home-control home-within
+        (timing-within ℓ (comes .state) (unbroken ℓ (comes .state) (home-broken ∙ n) .1) home-within)
 
 -- Away: the second is still there, and nothing has broken, or both are back.
 away-broken : {ℓ : ℕ} {s t : State} → Compared ℓ s t → Away ℓ s → Away ℓ t → s .control .first ≡ t .control .first

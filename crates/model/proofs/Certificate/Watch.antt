@@ -15,7 +15,7 @@ use Rattle.model.proofs.WellFormed.{step-fixed}
 use Rattle.model.proofs.Ready.{Ready}
 use Rattle.model.proofs.Step.{step-ready, step-ended, step-passes}
 use Rattle.model.proofs.Run.{steps-leave}
-use Rattle.model.proofs.Certificate.Release.{unbroken}
+use Rattle.model.proofs.Certificate.Attempts.{unbroken}
 
 -- The first break behind a state: its step attempts a release, or the state after it is broken, or it comes later.
 pub data Breaks (ℓ : ℕ) : State → Certificate → Type 0 where

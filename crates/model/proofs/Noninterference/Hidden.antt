@@ -4,7 +4,7 @@
 use Prim.Native.Nat.{ℕ, _+_, _<_, _≤_}
 use mathlib.Core.Path.{_≡_, refl, sym, ap, _∙_}
 use mathlib.Core.Logic.{_⊎_, inl, inr}
-use mathlib.Core.Bool.{true, false, _&&_, cond}
+use mathlib.Core.Bool.{Bool, true, false, _&&_, cond}
 use native.Mathlib.Nat.{le-refl}
 use native.Mathlib.Omega.{arith}
 use lib.Dec.{leb, eqb}
@@ -18,12 +18,12 @@ use Rattle.model.specs.Record.{State, Location, register, word, machineO
 use Rattle.model.specs.WellFormed.{endInRange}
 use Rattle.model.specs.Ops.{Write, Change}
 use Rattle.model.specs.Step.{Decision, carry, endTick, finish, running, decide, written, writeOf, withControl, restored, changed, controlAfter, apply, step}
-use Rattle.model.specs.Seen.{within, exists, seenAt}
+use Rattle.model.specs.Seen.{within, exists, seenBy}
 use Rattle.model.specs.Noninterference.{callsGate, gateCallsIn, StepProvisos}
 use Rattle.model.proofs.Truth.{clash}
 use Rattle.model.proofs.Writes.{written-fixed}
 use Rattle.model.proofs.Ready.{_⊑_, Fit, CallsFit, none, gate, upcall, both, Ready}
-use Rattle.model.proofs.Legal.{LegalWrite, keeps, sets, marks, LegalChange, writes, goes, enters, calls, gates, returns, stops, Legal, rests, spends, stalls, closes, carries, legal}
+use Rattle.model.proofs.Legal.{LegalWrite, keeps, sets, marks, allowed, LegalChange, writes, goes, enters, calls, gates, returns, stops, Legal, rests, spends, stalls, closes, carries, legal}
 use Rattle.model.proofs.WellFormed.{step-control}
 use Rattle.model.proofs.Step.{there, step-write, step-clock, end-tick-late}
 use Rattle.model.proofs.Noninterference.Sight as sight
@@ -37,35 +37,36 @@ unfolding within
 outside-on ℓ h e = not-flows ℓ h e
 
 -- A legal write from outside is hidden.
-legal-hidden : (ℓ : ℕ) (s : State) {w : Write} → within ℓ (s .control .pair .pc) ≡ false → LegalWrite s w → Hidden ℓ s w
+legal-hidden : (ℓ : ℕ) (s : State) {w : Write} → within ℓ (s .control .pair .pc) ≡ false → LegalWrite s w → Hidden (within ℓ) s w
 legal-hidden ℓ s e keeps = sight.none
 legal-hidden ℓ s e (sets i z h v) = sight.sets (outside-on ℓ h e)
-legal-hidden ℓ s e (marks i z h k n) = sight.marks (outside-on ℓ h e) (outside-on ℓ k e)
+legal-hidden ℓ s e (marks i z f h n) =
+    let p = allowed f _ _ _ h in sight.marks (outside-on ℓ (p .0) e) (outside-on ℓ (p .1) e)
 
 -- A legal write is to a location that exists and is there.
 pub legal-fits : (s : State) → Ready s → {w : Write} → LegalWrite s w → Fits s w
 legal-fits s r keeps = sight.none
 legal-fits s r (sets {x = x} i z h v) = sight.sets (there s r x i) (inside-exists s x i)
-legal-fits s r (marks {x = x} i z h k n) = sight.marks (there s r x i) (inside-exists s x i)
+legal-fits s r (marks {x = x} i z f h n) = sight.marks (there s r x i) (inside-exists s x i)
 
 -- What is seen of the locations does not go by the control.
-seen-control : (ℓ : ℕ) (s : State) (c : Control) (x : Location) → seenAt ℓ (withControl s c) x ≡ seenAt ℓ s x
-unfolding seenAt exists labelAt valueAt
-seen-control ℓ s c (register k) = refl
-seen-control ℓ s c (word k) = refl
+seen-control : (sees : ℕ → Bool) (s : State) (c : Control) (x : Location) → seenBy sees (withControl s c) x ≡ seenBy sees s x
+unfolding seenBy exists labelAt valueAt
+seen-control sees s c (register k) = refl
+seen-control sees s c (word k) = refl
 
-pub alike-control : (ℓ : ℕ) (s : State) (c : Control) → Alike ℓ (withControl s c) s
-alike-control ℓ s c = record { size = refl; seen = seen-control ℓ s c }
+pub alike-control : (sees : ℕ → Bool) (s : State) (c : Control) → Alike sees (withControl s c) s
+alike-control sees s c = record { size = refl; seen = seen-control sees s c }
 
 -- The locations after a step are those after its write.
-pub step-written : (ℓ : ℕ) (s : State) → Alike ℓ (step s) (written s (writeOf s (decide s)))
+pub step-written : (sees : ℕ → Bool) (s : State) → Alike sees (step s) (written s (writeOf s (decide s)))
 unfolding step apply
-step-written ℓ s = alike-control ℓ (written s (writeOf s (decide s))) (controlAfter s (decide s))
+step-written sees s = alike-control sees (written s (writeOf s (decide s))) (controlAfter s (decide s))
 
 -- A step from outside shows nothing.
-pub hidden-step : (ℓ : ℕ) (s : State) → Ready s → within ℓ (s .control .pair .pc) ≡ false → Alike ℓ (step s) s
+pub hidden-step : (ℓ : ℕ) (s : State) → Ready s → within ℓ (s .control .pair .pc) ≡ false → Alike (within ℓ) (step s) s
 hidden-step ℓ s r e =
-    let l = step-write s r in alike-trans (step-written ℓ s) (hidden-write (legal-fits s r l) (legal-hidden ℓ s e l))
+    let l = step-write s r in alike-trans (step-written (within ℓ) s) (hidden-write (legal-fits s r l) (legal-hidden ℓ s e l))
 
 -- ---- outside for good: no upcall is open that was kept with the pc label within
 
@@ -179,7 +180,7 @@ pub data Onward (ℓ : ℕ) (s t : State) : Type 0 where
   returned : t .control ≡ back (s .control .first) (s .control .second) → endTick s < s .fixed .limit → Onward ℓ s t
 
 -- A running record has end 0, and so why 0.
-running-end : (c : Control) → eqb (c .end) 0 ≡ true → endInRange c ≡ true → (c .end ≡ 0) × (c .why ≡ 0)
+pub running-end : (c : Control) → eqb (c .end) 0 ≡ true → endInRange c ≡ true → (c .end ≡ 0) × (c .why ≡ 0)
 unfolding endInRange
 running-end c e h =
     let z = eqb-true (c .end) 0 e in

@@ -18,7 +18,7 @@ use Rattle.model.specs.Step.{endTick, running, withControl, step, steps}
 use Rattle.model.specs.Seen.{within, seen, unseen, seenControl, LowEquivalent}
 use Rattle.model.specs.Noninterference.{StepProvisos, timedFromOutside, SameSetting}
 use Rattle.model.proofs.Truth.{either, clash, and-iff, not-iff}
-use Rattle.model.proofs.Ready.{_⊑_, Ready}
+use Rattle.model.proofs.Ready.{Ready}
 use Rattle.model.proofs.WellFormed.{step-fixed}
 use Rattle.model.proofs.Step.{step-ready}
 use Rattle.model.proofs.Run.{steps-ended, steps-ready, steps-leave}
@@ -42,7 +42,8 @@ pub record Rests (k : ℕ) (s : State) : Type 0 where
 -- that was kept with the pc label within; or both outside for good.
 data Stand (ℓ : ℕ) (s t : State) : Type 0 where
   over : s .control ≡ t .control → running s ≡ false → Stand ℓ s t
-  level : s .control ≡ t .control → running s ≡ true → s .control .pair .pc ⊑ ℓ → s .control .pair .timing ⊑ ℓ → Stand ℓ s t
+  level : s .control ≡ t .control → running s ≡ true → within ℓ (s .control .pair .pc) ≡ true
+      → within ℓ (s .control .pair .timing) ≡ true → Stand ℓ s t
   gone : Away ℓ s → Away ℓ t → s .control .first ≡ t .control .first → s .control .second ≡ t .control .second → Stand ℓ s t
   lost : Lost ℓ (s .control) → Lost ℓ (t .control) → Stand ℓ s t
 
@@ -51,7 +52,7 @@ pub record Both (ℓ : ℕ) (s t : State) : Type 0 where
   pub one : Ready s
   pub two : Ready t
   pub setting : SameSetting s t
-  pub alike : Alike ℓ s t
+  pub alike : Alike (within ℓ) s t
 
 -- ---- what is seen of the control
 
@@ -108,7 +109,7 @@ stand ℓ s t e p =
     (λ (r : running s ≡ true).
     ⊎-elim
     (λ (k : within ℓ (s .control .pair .pc) ≡ true).
-    level e r (record { holds = unfold within in k }) (record { holds = unfold within in timing-within ℓ s p k }))
+    level e r k (timing-within ℓ s p k))
     (λ (k : within ℓ (s .control .pair .pc) ≡ false).
     ⊎-elim
     (λ (h : Abroad ℓ (s .control)).
@@ -159,7 +160,7 @@ first-stand ℓ s t p c u v =
 
 -- So many steps from there.
 lost-steps : (ℓ j : ℕ) (s : State) → Ready s → Lost ℓ (s .control) → Allowed ℓ j s
-    → Lost ℓ (steps j s .control) × Alike ℓ (steps j s) s
+    → Lost ℓ (steps j s .control) × Alike (within ℓ) (steps j s) s
 unfolding steps
 lost-steps ℓ zero s r l p = (l, record { size = refl; seen = λ x. refl })
 lost-steps ℓ (suc j) s r l p =
@@ -170,9 +171,9 @@ lost-steps ℓ (suc j) s r l p =
 
 -- After so many steps a machine is still away, or it came back in a state from which it took fewer.
 data Journey (ℓ j : ℕ) (s : State) : Type 0 where
-  out : Still ℓ s (steps j s) → Alike ℓ (steps j s) s → Journey ℓ j s
+  out : Still ℓ s (steps j s) → Alike (within ℓ) (steps j s) s → Journey ℓ j s
   home : (m : ℕ) (u : State) → m < j → Ready u → u .control ≡ back (s .control .first) (s .control .second)
-      → endTick s < s .fixed .limit → u .fixed ≡ s .fixed → Alike ℓ u s → steps j s ≡ steps m u → Allowed ℓ m u
+      → endTick s < s .fixed .limit → u .fixed ≡ s .fixed → Alike (within ℓ) u s → steps j s ≡ steps m u → Allowed ℓ m u
       → timedFromOutside ℓ u ≡ false → Journey ℓ j s
 
 -- The end tick goes by the open calls.
@@ -182,7 +183,7 @@ unfolding endTick newest
 end-tick-same s t p q = ap₂ (λ (x y : Call). endTickOf (cond (isEmpty y) x y)) p q
 
 -- A step away, and then so many.
-onward : (ℓ j : ℕ) (s : State) → Ready s → Still ℓ s (step s) → Alike ℓ (step s) s → Journey ℓ j (step s) → Journey ℓ (suc j) s
+onward : (ℓ j : ℕ) (s : State) → Ready s → Still ℓ s (step s) → Alike (within ℓ) (step s) s → Journey ℓ j (step s) → Journey ℓ (suc j) s
 unfolding steps
 onward ℓ j s r w a (out v b) =
     out (record { away = v .away; first = v .first ∙ w .first; second = v .second ∙ w .second }) (alike-trans b a)
@@ -285,8 +286,8 @@ module _ (ℓ k : ℕ) where
       → Rests k (steps m u) → Rests k (steps l v) → LowEquivalent ℓ (steps m u) (steps l v)
 
   -- Level: both have come to k, or both take a step.
-  level-on : (j i : ℕ) (s t : State) → Both ℓ s t → s .control ≡ t .control → running s ≡ true → s .control .pair .pc ⊑ ℓ
-      → s .control .pair .timing ⊑ ℓ → Allowed ℓ j s → Allowed ℓ i t → Rests k (steps j s) → Rests k (steps i t) → Fewer j
+  level-on : (j i : ℕ) (s t : State) → Both ℓ s t → s .control ≡ t .control → running s ≡ true
+      → within ℓ (s .control .pair .pc) ≡ true → within ℓ (s .control .pair .timing) ≡ true → Allowed ℓ j s → Allowed ℓ i t → Rests k (steps j s) → Rests k (steps i t) → Fewer j
       → LowEquivalent ℓ (steps j s) (steps i t)
   unfolding steps
   level-on zero zero s t b e r p m x y c d more = record { locations = b .alike .seen; control = same-control ℓ s t e }

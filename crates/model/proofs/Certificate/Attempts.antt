@@ -6,11 +6,11 @@ use mathlib.Core.Path.{_≡_, refl, sym, ap, _∙_, subst}
 use mathlib.Core.Logic.{⊎-elim}
 use mathlib.Core.Bool.{Bool, true, false, not, _&&_, _||_, cond, and-false}
 use native.Mathlib.Omega.{arith}
-use lib.Dec.{ltb, eqb}
+use lib.Dec.{eqb}
 use lib.ListN.{getD}
-use borrow.Author.Tests.{eqb-true, eqb-false, ltb-true, ltb-false}
+use borrow.Author.Tests.{eqb-true, eqb-false}
 use Rattle.labels.specs.Label.{principals, flows}
-use Rattle.labels.proofs.Laws.{flows-trans, raise-rises, relabel-flows-new, relabel-reflected}
+use Rattle.labels.proofs.Laws.{raise-rises, relabel-flows-new, relabel-reflected}
 use Rattle.model.specs.declared.Fixed.{Fixed}
 use Rattle.model.specs.declared.Control.{Control}
 use Rattle.model.specs.declared.Call.{Call}
@@ -18,39 +18,25 @@ use Rattle.model.specs.declared.Call.the-variants.{Empty, Gate, Upcall}
 use Rattle.model.specs.Record.{State, Location, register, word, labelAt, isEmpty, isUpcall, newest, inUpcall}
 use Rattle.model.specs.Word.{Rule, raise, relabel, Op, immediate, arithmetic, load, store, branch, jump, readClock, setLabel, setPair, upcall, endUpcall, gateCall, gateReturn, halt, aField}
 use Rattle.model.specs.WellFormed.{noGate}
-use Rattle.model.specs.Ops.{writable, Write, nothing, value, label, Change, write, goto, Effect, does, ends, Row, isLabel, allows, La, Lb, Rb, table}
-use Rattle.model.specs.Step.{Fetched, failed, fetched, fetch, Decision, rest, spend, stall, close, carry, fault, passed, attempt, plan, beyondLimit, inLimit, running, decide, isCarried, causeAllowed, causeWrite, changeWrite, writeOf, written, controlAfter, changed, step}
+use Rattle.model.specs.Ops.{writable, Write, label, Change, write, Effect, does, isLabel, allows, La, Lb, Rb, table}
+use Rattle.model.specs.Step.{fetched, fetch, Decision, carry, decide, isCarried, writeOf, written, controlAfter, changed, step}
 use Rattle.model.specs.Seen.{within, exists}
 use Rattle.model.specs.Noninterference.{downgrades, callsGate, gateCallsIn, timedFromOutside, StepProvisos}
 use Rattle.model.specs.Certificate.{triesRelease, releases, attempts, leadsWithin, atLarge, breaks}
 use Rattle.model.proofs.Truth.{either, clash, and-iff, and-three, or-iff}
 use Rattle.model.proofs.Writes.{same, label-after-label, label-after-value}
-use Rattle.model.proofs.Ready.{_⊑_, Ready}
+use Rattle.model.proofs.Ready.{Ready}
 use Rattle.model.proofs.Legal.{LegalWrite, keeps, sets, marks, LegalChange, writes, goes, enters, calls, gates, returns, stops, Legal, rests, spends, stalls, closes, carries, legal}
 use Rattle.model.proofs.WellFormed.{step-control}
 use Rattle.model.proofs.Step.{there, step-write}
-use Rattle.model.proofs.Noninterference.Sight.{same-location}
+use Rattle.model.proofs.Noninterference.Sight.{same-location, within-down}
 use Rattle.model.proofs.Noninterference.Hidden.{outside-on}
-use Rattle.model.proofs.Noninterference.Visible.{late, in-time-late, step-label}
+use Rattle.model.proofs.Noninterference.Visible.{step-label}
+use Rattle.model.proofs.Relabelling.{Plain, same-label, effectWrite, relabelling}
 
--- ---- what sets a label
+-- ---- the op that sets a label
 
--- A write that sets no label.
-abbrev Plain : Write → Type 0
-Plain nothing = Unit {0}
-Plain (value x v) = Unit {0}
-Plain (label x l) = ⊥
-
--- It is none that does.
-plain-label : {w : Write} {x : Location} {l : ℕ} → Plain w → w ≡ label x l → ⊥
-plain-label h e = subst Plain e h
-
--- What an effect writes.
-abbrev effectWrite : Effect → Write
-effectWrite (does c) = changeWrite c
-effectWrite ends = nothing
-
--- The label of a location set.
+-- A step that sets the label of a location: its word is that of op 15 or 16.
 record Set (s : State) (x : Location) (l : ℕ) : Type 0 where
   word : ℕ
   rule : Rule
@@ -60,93 +46,37 @@ record Set (s : State) (x : Location) (l : ℕ) : Type 0 where
   label : Rb s word ≡ l
   done : isCarried (decide s) ≡ true
 
--- Two writes of a label that are one.
-same-label : {x y : Location} {l m : ℕ} → label x l ≡ label y m → (x ≡ y) × (l ≡ m)
-same-label e = ((cc), (cc))
+module _ (s : State) {x : Location} {l : ℕ} where
+  -- An effect that sets no label is another one.
+  plain-effect : {e : Effect} → Plain (effectWrite e) → e ≡ does (write (label x l)) → Set s x l
+  plain-effect h e = absurd (subst (λ (d : Effect). Plain (effectWrite d)) e h)
 
-module _ (s : State) where
-  -- A cause is a value.
-  plain-cause : (k : ℕ) → Plain (causeWrite s k)
-  unfolding causeWrite
-  plain-cause k = go (causeAllowed s)
-    where
-      go : (b : Bool) → Plain (cond b (value (register 15) k) nothing)
-      go true = tt
-      go false = tt
+  -- Of all ops those two.
+  set-op : (w : ℕ) (op : Op) → fetch s ≡ fetched w op → table s w op .check ≡ true
+      → table s w op .effect ≡ does (write (label x l)) → isCarried (decide s) ≡ true → Set s x l
+  unfolding table
+  set-op w immediate f c e d = plain-effect {e = table s w immediate .effect} tt e
+  set-op w (arithmetic g) f c e d = plain-effect {e = table s w (arithmetic g) .effect} tt e
+  set-op w load f c e d = plain-effect {e = table s w load .effect} tt e
+  set-op w store f c e d = plain-effect {e = table s w store .effect} tt e
+  set-op w (branch g) f c e d = plain-effect {e = table s w (branch g) .effect} tt e
+  set-op w jump f c e d = plain-effect {e = table s w jump .effect} tt e
+  set-op w readClock f c e d = plain-effect {e = table s w readClock .effect} tt e
+  set-op w (setLabel g) f c e d =
+      let h = same-label (ap effectWrite e) in
+      record { word = w; rule = g; fetched = f; check = and-iff _ (writable (aField w)) .0 c .0; location = h .0; label = h .1; done = d }
+  set-op w setPair f c e d = plain-effect {e = table s w setPair .effect} tt e
+  set-op w upcall f c e d = plain-effect {e = table s w upcall .effect} tt e
+  set-op w endUpcall f c e d = plain-effect {e = table s w endUpcall .effect} tt e
+  set-op w gateCall f c e d = plain-effect {e = table s w gateCall .effect} tt e
+  set-op w gateReturn f c e d = plain-effect {e = table s w gateReturn .effect} tt e
+  set-op w halt f c e d = plain-effect {e = table s w halt .effect} tt e
 
-  -- An op whose effect sets no label, tried.
-  plain-attempt : (r : Row) → Plain (effectWrite (r .effect)) → Plain (writeOf s (attempt s r))
-  unfolding attempt writeOf
-  plain-attempt r h = go (r .check) (r .effect) (r .strict && inUpcall (s .control)) h
-    where
-      go : (b : Bool) (e : Effect) (c : Bool) → Plain (effectWrite e)
-          → Plain (writeOf s (cond b (passed (r .ticks) e) (cond c (close 3) (carry (r .ticks) (write nothing)))))
-      go true (does x) c h = h
-      go true ends c h = plain-cause 1
-      go false e true h = plain-cause 3
-      go false e false h = tt
-
-  -- A failed fetch.
-  plain-fault : (why : ℕ) → Plain (writeOf s (fault s why))
-  unfolding fault writeOf
-  plain-fault why = go (inUpcall (s .control)) (eqb (s .control .pc) (s .fixed .errorpc))
-    where
-      go : (b c : Bool) → Plain (writeOf s (cond b (close 3) (cond c (stall why) (carry 1 (goto (s .fixed .errorpc))))))
-      go true c = plain-cause 3
-      go false true = tt
-      go false false = tt
-
-  module _ {x : Location} {l : ℕ} where
-    -- An op that was tried, and set a label.
-    set-op : (w : ℕ) (op : Op) → fetch s ≡ fetched w op → decide s ≡ attempt s (table s w op)
-        → writeOf s (attempt s (table s w op)) ≡ label x l → Set s x l
-    unfolding table attempt writeOf
-    set-op w immediate f d e = absurd (plain-label (plain-attempt (table s w immediate) tt) e)
-    set-op w (arithmetic g) f d e = absurd (plain-label (plain-attempt (table s w (arithmetic g)) tt) e)
-    set-op w load f d e = absurd (plain-label (plain-attempt (table s w load) tt) e)
-    set-op w store f d e = absurd (plain-label (plain-attempt (table s w store) tt) e)
-    set-op w (branch g) f d e = absurd (plain-label (plain-attempt (table s w (branch g)) tt) e)
-    set-op w jump f d e = absurd (plain-label (plain-attempt (table s w jump) tt) e)
-    set-op w readClock f d e = absurd (plain-label (plain-attempt (table s w readClock) tt) e)
-    set-op w (setLabel g) f d e = go (table s w (setLabel g) .check) refl d e
-      where
-        go : (b : Bool) → table s w (setLabel g) .check ≡ b
-            → decide s ≡ attempt s (record { check = b; effect = does (write (label (register (aField w)) (Rb s w))); ticks = 2; strict = false })
-            → writeOf s (attempt s (record { check = b; effect = does (write (label (register (aField w)) (Rb s w))); ticks = 2; strict = false })) ≡ label x l
-            → Set s x l
-        go true c d e =
-            record { word = w; rule = g; fetched = f; check = and-iff _ (writable (aField w)) .0 c .0; location = same-label e .0; label = same-label e .1; done = ap isCarried d }
-        go false c d e = absurd (plain-label {w = nothing} tt e)
-    set-op w setPair f d e = absurd (plain-label (plain-attempt (table s w setPair) tt) e)
-    set-op w upcall f d e = absurd (plain-label (plain-attempt (table s w upcall) tt) e)
-    set-op w endUpcall f d e = absurd (plain-label (plain-attempt (table s w endUpcall) tt) e)
-    set-op w gateCall f d e = absurd (plain-label (plain-attempt (table s w gateCall) tt) e)
-    set-op w gateReturn f d e = absurd (plain-label (plain-attempt (table s w gateReturn) tt) e)
-    set-op w halt f d e = absurd (plain-label (plain-attempt (table s w halt) tt) e)
-
-    -- What was fetched.
-    set-plan : (f : Fetched) → fetch s ≡ f → decide s ≡ plan s f → writeOf s (plan s f) ≡ label x l → Set s x l
-    unfolding writeOf
-    set-plan (failed why) f d e = absurd (plain-label (plain-fault why) e)
-    set-plan (fetched w op) f d e = go (late s a) (d ∙ in-time-late s a) (ap (writeOf s) (sym (in-time-late s a)) ∙ e)
-      where
-        a : Decision
-        a = attempt s (table s w op)
-
-        go : (b : Bool) → decide s ≡ cond b (close 2) a → writeOf s (cond b (close 2) a) ≡ label x l → Set s x l
-        go true d e = absurd (plain-label (plain-cause 2) e)
-        go false d e = set-op w op f d e
-
-    -- A step that sets a label.
-    set-step : writeOf s (decide s) ≡ label x l → Set s x l
-    unfolding decide inLimit writeOf
-    set-step e = go (running s) (beyondLimit s (plan s (fetch s))) refl e
-      where
-        go : (b c : Bool) → decide s ≡ cond b (cond c spend (plan s (fetch s))) rest
-            → writeOf s (cond b (cond c spend (plan s (fetch s))) rest) ≡ label x l → Set s x l
-        go true true d e = absurd (plain-label {w = nothing} tt e)
-        go true false d e = set-plan (fetch s) refl d e
-        go false c d e = absurd (plain-label {w = nothing} tt e)
+  -- A step that sets a label.
+  set-step : writeOf s (decide s) ≡ label x l → Set s x l
+  set-step e =
+      let r = relabelling s e in
+      set-op (r .word) (r .op) (r .fetched) (r .check) (r .effect) (ap isCarried (r .decided))
 
 -- ---- what attempts nothing
 
@@ -156,11 +86,6 @@ unfolding attempts
 raise-quiet ℓ s w f = rw (f, and-false)
 
 -- ---- no label is lowered but by an attempt
-
--- What flows to a label within is within.
-pub within-on : (ℓ : ℕ) {l m : ℕ} → l ⊑ m → within ℓ m ≡ true → within ℓ l ≡ true
-unfolding within
-within-on ℓ h e = flows-trans h (record { holds = e }) .holds
 
 -- A label set from outside to within: a release was attempted.
 set-attempts : (ℓ : ℕ) (s : State) {x : Location} {l : ℕ} → Set s x l → within ℓ (labelAt s x) ≡ false → within ℓ l ≡ true
@@ -186,7 +111,7 @@ set-attempts ℓ s {x} {l} h o i =
         let k = and-three (isLabel (Rb s w)) (allows relabel p (La s w) (Rb s w)) (flows (Lb s w) p) c in
         let up = relabel-flows-new principals p (La s w) (Rb s w) (k .1) in
         let down = relabel-reflected principals p (La s w) (Rb s w) (k .1) in
-        rw (within-on ℓ up i, o, k .0, i, k .2, up .holds, down .holds)
+        rw (within-down ℓ .below up i, o, k .0, i, k .2, up .holds, down .holds)
 
 module _ (ℓ : ℕ) (s : State) (r : Ready s) (quiet : attempts ℓ s ≡ false) where
   -- The label that a write leaves is within only where the one before was.
@@ -229,16 +154,13 @@ leads ℓ n (suc m) f h e =
     ⊎-elim
     (λ (k : eqb n m ≡ true). ap (λ (j : ℕ). within ℓ (getD (f .gates) j noGate .pair .pc) || leadsWithin ℓ f m) (sym (eqb-true n m k)) ∙ rw e)
     (λ (k : eqb n m ≡ false).
-    let d : n ≡ m → ⊥ = eqb-false n m k in
-    right (within ℓ (getD (f .gates) m noGate .pair .pc)) (leads ℓ n m f (below n m h d) e))
+    let d = eqb-false n m k in
+    right (within ℓ (getD (f .gates) m noGate .pair .pc)) (leads ℓ n m f (omega arith) e))
     (either (eqb n m))
   where
     right : (a : Bool) {b : Bool} → b ≡ true → (a || b) ≡ true
     right true e = refl
     right false e = e
-
-    below : (n m : ℕ) → n < suc m → (n ≡ m → ⊥) → n < m
-    below n m h d = ⊎-elim (λ (x : ltb n m ≡ true). ltb-true n m x) (λ (x : ltb n m ≡ false). let y = ltb-false n m x in absurd (d (omega arith))) (either (ltb n m))
 
 -- A call that is empty is no upcall.
 empty-upcall : (x : Call) → isEmpty x ≡ true → isUpcall x ≡ false
