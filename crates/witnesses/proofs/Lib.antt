@@ -1,3 +1,4 @@
 pub mod WitnessFacts
 pub mod CertificateFacts
+pub mod ReleaseFacts
 pub mod ViewFacts

@@ -13,20 +13,19 @@ use borrow.Author.Tests.{ltb-true, eqb-true, eqb-false, eq-eqb, le-leb}
 use Rattle.model.specs.declared.Pair.{Pair}
 use Rattle.model.specs.declared.Call.{Call}
 use Rattle.model.specs.declared.Call.the-variants.{Empty, Gate, Upcall}
-use Rattle.labels.specs.Principals.{label, meet, highest}
+use Rattle.labels.specs.Principals.{highest}
 use Rattle.model.specs.Record.{State, Location, register, word}
 use Rattle.model.specs.WellFormed.{noGate}
-use Rattle.model.specs.Ops.{table}
-use Rattle.model.specs.Step.{running, step, steps}
+use Rattle.model.specs.Step.{running, steps}
 use Rattle.model.specs.Answer.{answer}
 use Rattle.model.specs.Text.{isDigit, digits, decimalFrom, wellWritten, number, field, readFields, fieldCount, lineOf, readLine, linesIn, lines}
 use Rattle.causes.specs.Tests.{firstRefusal}
 use Rattle.model.specs.Load.{headerInRange, gateInRange, entryInRange, inOrder, rising, headerTests, lineTests, judgeM, judgeHeader, judge, judgeText, cleared, fill, load}
 use Rattle.model.specs.Listing.{decimalIn, decimal, fields, line, headLines, isListed, entryLine, entryLines}
 use Rattle.model.specs.Program.{stateOfLoad}
-use Rattle.model.specs.Seen.{within, exists, Seen, hidden, shown, seenAt, SeenControl, unseen, seen, seenControl, LowEquivalent}
+use Rattle.model.specs.Seen.{within, exists, Seen, hidden, shown, seenBy, seenAt, SeenControl, unseen, seen, seenControl, LowEquivalent}
 use Rattle.model.specs.Noninterference.{Invocation, fromText, lend, regain, answered, after, runStates, workStates, callStates, trace, final, atTick, reached, downgrades, gateCallsIn, timedFromOutside, StepsProvisos, Provisos, SameSetting}
-use Rattle.witnesses.specs.Witness.{each, eachLocation, sameSeen, samePair, sameCall, sameControl, sameSeenControl, lowEquivalent, noDowngrade, noGateIn, timedWithin, upTo, provisos, provisosHold, qualifies, textOf, Loads, Counterexample, fixedOf, usual, interrupted, oneRun, left, right, leftAt, rightAt, mainTable, downgrading, callingGate, timedBySecret, under, nothingThere, gateCalled, unbrokenTable, reachedTable}
+use Rattle.witnesses.specs.Witness.{each, eachLocation, sameSeen, samePair, sameCall, sameControl, sameSeenControl, sameSight, lowEquivalent, noDowngrade, noGateIn, timedWithin, upTo, provisos, provisosHold, qualifies, textOf, Loads, Counterexample, fixedOf, usual, interrupted, oneRun, left, right, leftAt, rightAt, mainTable, downgrading, callingGate, timedBySecret, under, nothingThere, gateCalled, unbrokenTable, reachedTable}
 use Rattle.model.specs.Facts.{every}
 use Rattle.model.proofs.Facts.{stepping}
 use Rattle.model.proofs.Truth.{either, clash, and-iff, not-iff}
@@ -35,7 +34,7 @@ use Rattle.model.proofs.Noninterference.{noninterference}
 -- ---- what passes for each
 
 -- A test that passes for each number below n passes for a number below n.
-each-at : (n : ℕ) (f : ℕ → Bool) → each n f ≡ true → (k : ℕ) → k < n → f k ≡ true
+pub each-at : (n : ℕ) (f : ℕ → Bool) → each n f ≡ true → (k : ℕ) → k < n → f k ≡ true
 each-at zero f e k h = absurd (omega arith)
 each-at (suc n) f e k h =
     let p = and-iff (f n) (each n f) .0 e in
@@ -97,14 +96,14 @@ control-self (seen c) =
     rw (eq-eqb (c .pc) (c .pc) refl, pair-self (c .pair), eq-eqb (c .clock) (c .clock) refl, call-self (c .first), call-self (c .second), eq-eqb (c .end) (c .end) refl, eq-eqb (c .why) (c .why) refl)
 
 -- Where it passes the two are one.
-pair-one : (q r : Pair) → samePair q r ≡ true → q ≡ r
+pub pair-one : (q r : Pair) → samePair q r ≡ true → q ≡ r
 unfolding samePair
 pair-one q r e =
     let h = simp and-iff at e in
     let a = eqb-true _ _ (h .0) in
     let b = eqb-true _ _ (h .1) in λ i. record { pc = a i; timing = b i }
 
-call-one : (x y : Call) → sameCall x y ≡ true → x ≡ y
+pub call-one : (x y : Call) → sameCall x y ≡ true → x ≡ y
 unfolding sameCall
 call-one Empty Empty e = refl
 call-one Empty (Gate k q) e = clash e refl
@@ -144,31 +143,34 @@ control-one (seen c) (seen d) e =
     λ i. seen (record { pc = pc i; pair = pair i; clock = clock i; first = first i; second = second i; end = end i; why = why i })
 
 -- A location that exists in neither state looks the same in both.
-nowhere : (ℓ : ℕ) (s t : State) (x : Location) → exists s x ≡ false → exists t x ≡ false → seenAt ℓ s x ≡ seenAt ℓ t x
-unfolding seenAt
-nowhere ℓ s t x e f = rw (e, f)
+nowhere : (sees : ℕ → Bool) (s t : State) (x : Location) → exists s x ≡ false → exists t x ≡ false → seenBy sees s x ≡ seenBy sees t x
+unfolding seenBy
+nowhere sees s t x e f = rw (e, f)
+
+-- States of which the same is tested to be seen show the same.
+pub sight : (sees : ℕ → Bool) (s t : State) → sameSight sees s t ≡ true → (x : Location) → seenBy sees s x ≡ seenBy sees t x
+unfolding sameSight
+sight sees s t e x =
+    let n = max (s .fixed .size) (t .fixed .size) in
+    let f : Location → Bool = λ x. sameSeen (seenBy sees s x) (seenBy sees t x) in
+    ⊎-elim
+    (λ (i : exists s x ≡ true). seen-one _ _ (location-at n f e s (omega arith) x i))
+    (λ (i : exists s x ≡ false).
+    ⊎-elim
+    (λ (j : exists t x ≡ true). seen-one _ _ (location-at n f e t (omega arith) x j))
+    (λ (j : exists t x ≡ false). nowhere sees s t x i j)
+    (either (exists t x)))
+    (either (exists s x))
 
 -- States that are tested to be low-equivalent are.
 pub low : (ℓ : ℕ) (s t : State) → lowEquivalent ℓ s t ≡ true → LowEquivalent ℓ s t
 low ℓ s t e =
-    let n = max (s .fixed .size) (t .fixed .size) in
-    let f : Location → Bool = λ x. sameSeen (seenAt ℓ s x) (seenAt ℓ t x) in
-    let h = and-iff (eachLocation n f) _ .0 e in
-    record {
-      locations =
-          λ x. ⊎-elim
-          (λ (i : exists s x ≡ true). seen-one _ _ (location-at n f (h .0) s (omega arith) x i))
-          (λ (i : exists s x ≡ false).
-          ⊎-elim
-          (λ (j : exists t x ≡ true). seen-one _ _ (location-at n f (h .0) t (omega arith) x j))
-          (λ (j : exists t x ≡ false). nowhere ℓ s t x i j)
-          (either (exists t x)))
-          (either (exists s x));
-      control = control-one _ _ (h .1);
-    }
+    let h = and-iff (sameSight (within ℓ) s t) _ .0 e in
+    record { locations = sight (within ℓ) s t (h .0); control = control-one _ _ (h .1) }
 
 -- States that fail the test are not.
 pub apart : (ℓ : ℕ) (s t : State) → lowEquivalent ℓ s t ≡ false → LowEquivalent ℓ s t → ⊥
+unfolding sameSight
 apart ℓ s t e h =
     let f : Location → Bool = λ x. sameSeen (seenAt ℓ s x) (seenAt ℓ t x) in
     let g : (x : Location) → f x ≡ true = λ x. subst (λ (y : Seen). sameSeen (seenAt ℓ s x) y ≡ true) (h .locations x) (seen-self _) in
@@ -273,7 +275,7 @@ counterexample ℓ k s t qs met l m e p q =
 
 -- All that a table computes with, beyond a step. Who says `unfolding computing` opens each of them.
 unfoldable pub computing : Bool
-unfolding stepping highest answer within exists seenAt seenControl lend regain answered after runStates workStates callStates trace final atTick reached downgrades gateCallsIn timedFromOutside sameSeen samePair sameCall sameControl sameSeenControl isDigit digits decimalFrom wellWritten number field readFields fieldCount lineOf readLine linesIn lines headerInRange gateInRange entryInRange inOrder rising headerTests lineTests firstRefusal judgeM judgeHeader judge judgeText cleared fill load decimalIn decimal fields line headLines isListed entryLine entryLines
+unfolding stepping highest answer within exists seenBy seenControl lend regain answered after runStates workStates callStates trace final atTick reached downgrades gateCallsIn timedFromOutside sameSeen sameSight samePair sameCall sameControl sameSeenControl isDigit digits decimalFrom wellWritten number field readFields fieldCount lineOf readLine linesIn lines headerInRange gateInRange entryInRange inOrder rising headerTests lineTests firstRefusal judgeM judgeHeader judge judgeText cleared fill load decimalIn decimal fields line headLines isListed entryLine entryLines
 computing = true
 
 -- The two machines of the main witness differ as their table says, at a sound label and at one that isn't.

@@ -1,3 +1,4 @@
 pub mod Witness
 pub mod Certificates
+pub mod Releases
 pub mod Views

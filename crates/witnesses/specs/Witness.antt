@@ -22,7 +22,7 @@ use Rattle.model.specs.Ops.{mayCallGate}
 use Rattle.model.specs.Step.{running, decide, moved, opened, ended, step}
 use Rattle.model.specs.Load.{load}
 use Rattle.model.specs.Listing.{line, entryLines}
-use Rattle.model.specs.Seen.{within, Seen, hidden, shown, seenAt, SeenControl, unseen, seen, seenControl, LowEquivalent}
+use Rattle.model.specs.Seen.{within, Seen, hidden, shown, seenBy, seenAt, SeenControl, unseen, seen, seenControl, LowEquivalent}
 use Rattle.model.specs.declared.Request.{Request}
 use Rattle.model.specs.declared.Request.the-variants.{Step, Run}
 use Rattle.model.specs.Noninterference.{whole, part, Invocation, trace, final, atTick, reached, downgrades, callsGate, gateCallsIn, timedFromOutside}
@@ -75,11 +75,14 @@ sameSeenControl unseen (seen c) = false
 sameSeenControl (seen c) unseen = false
 sameSeenControl (seen c) (seen d) = sameControl c d
 
+-- The same is seen of every location, by one who sees these labels.
+unfoldable pub sameSight : (ℕ → Bool) → State → State → Bool
+sameSight sees s t =
+    eachLocation (max (s .fixed .size) (t .fixed .size)) (λ x. sameSeen (seenBy sees s x) (seenBy sees t x))
+
 -- Low-equivalent.
 abbrev pub lowEquivalent : ℕ → State → State → Bool
-lowEquivalent ℓ s t =
-    eachLocation (max (s .fixed .size) (t .fixed .size)) (λ x. sameSeen (seenAt ℓ s x) (seenAt ℓ t x))
-    && sameSeenControl (seenControl ℓ s) (seenControl ℓ t)
+lowEquivalent ℓ s t = sameSight (within ℓ) s t && sameSeenControl (seenControl ℓ s) (seenControl ℓ t)
 
 -- A step from s to t downgrades no location.
 abbrev pub noDowngrade : ℕ → State → State → Bool
