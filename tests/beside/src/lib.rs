@@ -1,10 +1,11 @@
 //! The library beside the interpreter.
 //!
 //! The library is called through its C functions, the interpreter through the
-//! same buffers. Six programs compare them: `listings` on generated images, `hex`
+//! same buffers. Seven programs compare them: `listings` on generated images, `hex`
 //! on images from HEX, `calls` on records and memory that no load gives, `views`
 //! at the ticks of generated images, `pairs` on pairs of machines that differ in
-//! their secrets, `certificates` on pairs of which one is certified.
+//! their secrets, `certificates` on pairs of which one is certified, `releases` on
+//! pairs of records that differ in what an outsider can write.
 
 #![deny(unsafe_code)]
 
@@ -27,6 +28,7 @@ pub mod pairs;
 pub mod parting;
 pub mod program;
 pub mod random_records;
+pub mod releases;
 pub mod tally;
 pub mod trials;
 pub mod verdict;

@@ -7,8 +7,11 @@
 #[derive(Clone, Copy, Debug, PartialEq, Eq)]
 pub struct Label(pub u8);
 
+/// "sets of four principals, one bit each": the one of all four.
+pub const EVERYONE: u8 = 15;
+
 /// Whether one set of principals, "one bit each", is "a subset" of another.
-fn is_subset(a: u8, b: u8) -> bool {
+pub fn is_subset(a: u8, b: u8) -> bool {
     a & !b == 0
 }
 
@@ -74,6 +77,18 @@ impl Label {
     /// "A label is *sound* when c is a subset of i."
     pub fn is_sound(self) -> bool {
         is_subset(self.confidentiality(), self.integrity())
+    }
+
+    /// "A label is trusted when its i isn't within j", the set that the person
+    /// is trusted with.
+    pub fn is_trusted(self, j: u8) -> bool {
+        !is_subset(self.integrity(), j)
+    }
+
+    /// "and secret when its c includes s", the set whose secrets the person is
+    /// shut out from.
+    pub fn is_secret(self, s: u8) -> bool {
+        is_subset(s, self.confidentiality())
     }
 
     /// "A label read from a register must be at most 255." A larger value is

@@ -6,8 +6,9 @@
 //! What is quoted of register 0 stands in a later request of the owner's: "It
 //! now always reads 0 with the lowest label". So does what is quoted of a view:
 //! "run to that tick and list what the label sees", of ops 23 and 24: "Division
-//! for mixing ratios", of HEX: "Images from Intel HEX", and of the pairs of
-//! gates: "Bad gates refused at the door".
+//! for mixing ratios", of HEX: "Images from Intel HEX", of the pairs of gates:
+//! "Bad gates refused at the door", and of what is trusted and what is secret:
+//! "An outsider can't steer a release".
 
 #![forbid(unsafe_code)]
 

@@ -164,7 +164,7 @@ pub(super) fn change(random: &mut Random, level: Label, location: &mut Register)
 }
 
 /// A word of any op.
-fn any_op(random: &mut Random) -> u32 {
+pub fn any_op(random: &mut Random) -> u32 {
     let (first, last) = (*op::KNOWN.start(), *op::KNOWN.end());
     let number = random.between(first.into(), last.into()) as u8;
     encode(number, random.bits(), random.bits(), random.bits())

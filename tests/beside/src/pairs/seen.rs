@@ -26,6 +26,14 @@ impl State {
         Register { value: self.words[address], label: Label(self.labels[address]) }
     }
 
+    /// Puts something else into every word, with its label.
+    pub fn set_words(&mut self, mut new: impl FnMut(Register) -> Register) {
+        for address in 0..self.words.len() {
+            let Register { value, label } = new(self.word(address));
+            (self.words[address], self.labels[address]) = (value, label.0);
+        }
+    }
+
     /// All registers, then all words below the size.
     pub fn locations(&self) -> impl Iterator<Item = Register> + '_ {
         let words = (0..self.words.len()).map(|address| self.word(address));

@@ -5,7 +5,7 @@ use super::random::Random;
 use crate::label::{Label, Pair};
 
 /// Some of the principals of a set.
-fn some_of(random: &mut Random, set: u8) -> u8 {
+pub fn some_of(random: &mut Random, set: u8) -> u8 {
     match random.below(4) {
         0 => 0,
         1 => set,
