@@ -8,7 +8,7 @@ use native.Mathlib.Nat.{mod-lt, mod-eq-of-lt}
 use lib.Arith.{digits-lt}
 use lib.Bits.{bitAnd, bitOr, and-lt, or-lt, and-mask}
 use lib.Pow.{pow-pos, pow-add, split, high, low, shr-lt, ones-lt}
-use borrow.Author.Tests.{eq-eqb}
+use borrow.Author.Tests.{eq-eqb, not-true}
 use Rattle.labels.specs.Principals.{subset, label, integrity, confidentiality, flows, join, meet, reflection, uncompromised, validPair, lowest, highest, mayRaise, mayRelabel, trusted, secret}
 use Rattle.labels.proofs.Subset.{same-truth, subset-refl, subset-trans, subset-antisym, subset-and, subset-or}
 
@@ -322,14 +322,19 @@ valid-uncompromised-timing n p t e = valid-parts n p t e .2
 
 -- ---- what is trusted, and what is secret
 
+-- What a set that isn't within j trusts is trusted: the set lies within its i.
+trusted-by : (n j s l : ℕ) → subset s j ≡ false → subset s (integrity n l) ≡ true → trusted n j l ≡ true
+unfolding trusted
+trusted-by n j s l o h = go (subset (integrity n l) j) refl
+  where
+    go : (b : Bool) → subset (integrity n l) j ≡ b → not b ≡ true
+    go true k = sym o ∙ subset-trans s (integrity n l) j h k
+    go false k = refl
+
 -- What flows to something trusted is trusted.
 pub trusted-below : {n l m : ℕ} (j : ℕ) → Flows n l m → trusted n j m ≡ true → trusted n j l ≡ true
 unfolding trusted
-trusted-below {n} {l} {m} j f e = go (subset (integrity n l) j) refl
-  where
-    go : (b : Bool) → subset (integrity n l) j ≡ b → not b ≡ true
-    go true k = sym (ap not (subset-trans (integrity n m) (integrity n l) j (halves f .0) k)) ∙ e
-    go false k = refl
+trusted-below {n} {l} {m} j f e = trusted-by n j (integrity n m) l (not-true (subset (integrity n m) j) e) (halves f .0)
 
 -- What something secret flows to is secret.
 pub secret-above : {n l m : ℕ} (s : ℕ) → Flows n l m → secret n s l ≡ true → secret n s m ≡ true
@@ -338,15 +343,8 @@ secret-above {n} {l} {m} s f e = subset-trans s (confidentiality n l) (confident
 
 -- A sound label that is secret to s is trusted, where s isn't within j: s lies within its c, and that within its i.
 pub secret-trusted : (n j s l : ℕ) → subset s j ≡ false → uncompromised n l ≡ true → secret n s l ≡ true → trusted n j l ≡ true
-unfolding trusted secret uncompromised
-secret-trusted n j s l o u e = go (subset (integrity n l) j) refl
-  where
-    inside : subset s (integrity n l) ≡ true
-    inside = subset-trans s (confidentiality n l) (integrity n l) e u
-
-    go : (b : Bool) → subset (integrity n l) j ≡ b → not b ≡ true
-    go true k = sym o ∙ subset-trans s (integrity n l) j inside k
-    go false k = refl
+unfolding secret uncompromised
+secret-trusted n j s l o u e = trusted-by n j s l o (subset-trans s (confidentiality n l) (integrity n l) e u)
 
 -- ---- bounds
 

@@ -199,3 +199,20 @@ lacked-by-both m x y h l =
       bits y m l k,
       bit-lt k m,
     ))
+
+-- Two sets share nothing exactly when no bit is in both.
+apart-bits : (x z : ℕ) → eqb (bitAnd x z) 0 ≡ true → (k : ℕ) → min (bit k x) (bit k z) ≡ 0
+apart-bits x z e k = omega (arith, bit-and k x z, ap (bit k) (eqb-true (bitAnd x z) 0 e), bit-none k)
+
+by-apart-bits : (x z : ℕ) → ((k : ℕ) → min (bit k x) (bit k z) ≡ 0) → eqb (bitAnd x z) 0 ≡ true
+by-apart-bits x z h =
+    eq-eqb (bitAnd x z) 0 (same-bits (bitAnd x z) 0 (λ k. omega (arith, bit-and k x z, h k, bit-none k)))
+
+-- x and y together share nothing with z exactly when neither does.
+pub apart-or : (x y z : ℕ) → eqb (bitAnd (bitOr x y) z) 0 ≡ (eqb (bitAnd x z) 0 && eqb (bitAnd y z) 0)
+apart-or x y z =
+    same-truth (eqb (bitAnd (bitOr x y) z) 0) (eqb (bitAnd x z) 0 && eqb (bitAnd y z) 0)
+    (λ e. rw (by-apart-bits x z (λ k. omega (arith, bit-or k x y, apart-bits (bitOr x y) z e k)))
+    (by-apart-bits y z (λ k. omega (arith, bit-or k x y, apart-bits (bitOr x y) z e k))))
+    (λ e. let q = and-eq-true-iff (eqb (bitAnd x z) 0) (eqb (bitAnd y z) 0) .0 e in
+    by-apart-bits (bitOr x y) z (λ k. omega (arith, bit-or k x y, apart-bits x z (q .0) k, apart-bits y z (q .1) k)))

@@ -8,8 +8,8 @@ use lib.Bits.{bitAnd, bitOr, bitXor, xor-zero-r, and-shr, or-shr, xor-shr, and-m
 use lib.Dec.{eqb}
 use lib.Pow.{pow-pos, ones-lt}
 use borrow.Author.Tests.{eqb-true, eq-eqb}
-use Rattle.labels.specs.Principals.{subset, label, integrity, confidentiality, flows, join, meet, lowest, highest}
-use Rattle.labels.proofs.Subset.{same-truth, without, lacked-by-neither, lacked-by-both}
+use Rattle.labels.specs.Principals.{subset, label, integrity, confidentiality, flows, join, meet, lowest, highest, mayGo, restrictions, lacking}
+use Rattle.labels.proofs.Subset.{same-truth, without, lacked-by-neither, lacked-by-both, apart-or}
 use Rattle.labels.proofs.Laws.{integrity-label, confidentiality-label, label-halves, integrity-lt, confidentiality-lt, subset-all}
 
 -- ---- the halves of a label
@@ -130,3 +130,13 @@ whole-flows n a b h =
     ∙ ap₂ (λ (u v : ℕ). eqb u 0 && eqb v 0) i c
     ∙ ap₂ _&&_ (without (2 ^ n - 1) (integrity n b) (integrity n a) (subset-all n (integrity n b) (integrity-lt n b h)))
     (without (2 ^ n - 1) (confidentiality n a) (confidentiality n b) (subset-all n (confidentiality n a) (confidentiality-lt n a)))
+
+-- The same of restrictions by name.
+pub restricted-flows : (n a b : ℕ) → b < 2 ^ (n + n) → mayGo (restrictions n a) (lacking n b) ≡ flows n a b
+unfolding mayGo restrictions lacking
+restricted-flows = whole-flows
+
+-- What is under the restrictions of both may go where each may.
+pub or-may-go : (x y z : ℕ) → mayGo (bitOr x y) z ≡ (mayGo x z && mayGo y z)
+unfolding mayGo
+or-may-go = apart-or

@@ -59,3 +59,11 @@ trusted = over.trusted principals
 -- l is secret, where a person is shut out from the secrets of the set s.
 abbrev pub secret : ℕ → ℕ → Bool
 secret = over.secret principals
+
+-- The restrictions of l: who doesn't trust it, and whose secrets it may hold.
+abbrev pub restrictions : ℕ → ℕ
+restrictions = over.restrictions principals
+
+-- The restrictions that l lacks.
+abbrev pub lacking : ℕ → ℕ
+lacking = over.lacking principals

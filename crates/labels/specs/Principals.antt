@@ -4,12 +4,16 @@
 -- Assumes nothing.
 use Prim.Native.Nat.{ℕ, _+_, _-_, _*_, _/_, _%_, _^_}
 use mathlib.Core.Bool.{Bool, not, _&&_}
-use lib.Bits.{bitAnd, bitOr}
+use lib.Bits.{bitAnd, bitOr, bitXor}
 use lib.Dec.{eqb}
 
 -- Every member of x is a member of y.
 unfoldable pub subset : ℕ → ℕ → Bool
 subset x y = eqb (bitAnd x y) x
+
+-- None of these restrictions is lacking there: what is under them may go.
+unfoldable pub mayGo : ℕ → ℕ → Bool
+mayGo restricted lacked = eqb (bitAnd restricted lacked) 0
 
 module _ (n : ℕ) where
   -- The label with integrity i and confidentiality c.
@@ -71,3 +75,11 @@ module _ (n : ℕ) where
   -- Secret, where a person is shut out from the secrets of the set s: c includes s.
   unfoldable pub secret : ℕ → ℕ → Bool
   secret s l = subset s (confidentiality l)
+
+  -- The restrictions of l: who doesn't trust it, and whose secrets it may hold.
+  unfoldable pub restrictions : ℕ → ℕ
+  restrictions l = bitXor l (lowest)
+
+  -- The restrictions that l lacks.
+  unfoldable pub lacking : ℕ → ℕ
+  lacking l = bitXor l (highest)
