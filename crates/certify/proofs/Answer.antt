@@ -9,40 +9,37 @@ use lib.ListN.{length, take}
 use Rattle.causes.specs.declared.Outcome.the-variants.{Done}
 use Rattle.causes.specs.Causes.{numberOf, isDone}
 use Rattle.model.specs.Numbers.{letterV, letterX}
-use Rattle.model.specs.Record.{Bank, State, lent}
+use Rattle.model.specs.Record.{Bank, State, machineOf, lent}
 use Rattle.model.specs.Load.{Loading, load}
 use Rattle.model.specs.Listing.{line}
 use Rattle.model.specs.Program.{stateOfLoad, memoryAfter, programMemory, Replied}
 use Rattle.model.specs.Certificate.{whole, Certifying, certifying, verdictLine, certifyAlone}
-use Rattle.model.proofs.Ready.{Ready}
+use Rattle.model.proofs.Ready.{fits, whole-lent, Ready}
 use Rattle.model.proofs.Program.{load-ready}
-use Rattle.engine.specs.Inner.Drive.{InRanges}
 use Rattle.writer.specs.Writing.{Writing, answer, over, writing}
 use Rattle.writer.proofs.Answer.{line-whole}
 use Rattle.texts.proofs.Buffer.{front-counts}
 use Rattle.certify.specs.declared.Certificate.{Certificate}
 use Rattle.certify.specs.Certified.{certificateOf}
-use Rattle.certify.specs.Inner.Watch.{Watched}
+use Rattle.certify.specs.Inner.Watch.{Loaded, Watched}
 
 -- ---- a text certified
 
--- A ready state has the ranges that the steps rest on.
-ready-fit : {s : State} → Ready s → InRanges (s .fixed) (s .control) (s .memory .values) (s .memory .labels)
-ready-fit r =
+-- A ready state has what is asked of a loaded one.
+ready-loaded : {s : State} → Ready s → Loaded s
+ready-loaded {s} r =
     record {
-      size = r .fit .fixed .sizeHigh;
-      limit = r .fit .fixed .limitHigh;
-      gates = r .fit .fixed .gates;
-      clock = r .fit .clock;
-      words = r .words;
-      marks = r .labels;
+      typed = r .typed;
+      formed = fits (machineOf s) (r .fit);
+      whole = whole-lent (s .fixed .size) (s .memory) (r .words) (r .labels);
     }
 
 module _ (text : List ℕ) (m : Bank) (a : Loading) (e : a ≡ load text m) where
-  pub loaded-fit : a .outcome ≡ Done → InRanges (a .machine .fixed) (a .machine .control) (a .memory .values) (a .memory .labels)
+  -- What is loaded is such a state.
+  pub loaded-fit : a .outcome ≡ Done → Loaded (stateOfLoad a)
   loaded-fit y =
-      subst (λ (b : Loading). InRanges (b .machine .fixed) (b .machine .control) (b .memory .values) (b .memory .labels)) (sym e)
-      (ready-fit (load-ready text m (ap (λ (b : Loading). b .outcome) (sym e) ∙ y)))
+      subst (λ (b : Loading). Loaded (stateOfLoad b)) (sym e)
+      (ready-loaded (load-ready text m (ap (λ (b : Loading). b .outcome) (sym e) ∙ y)))
 
   -- A refused one.
   pub certified-refused : (ℓ : ℕ) → isDone (a .outcome) ≡ false

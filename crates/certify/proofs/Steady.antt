@@ -1,22 +1,21 @@
 -- Common ops break nothing: they attempt no release, and leave the pair, the open calls and the fixed part.
 -- Assumes nothing.
-use Prim.Native.Nat.{ℕ, zero, suc, _+_, _≤_}
+use Prim.Native.Nat.{ℕ, zero, suc, _+_}
 use mathlib.Core.Path.{_≡_, refl, sym, _∙_}
 use mathlib.Core.Bool.{true, false, _&&_, and-false}
-use native.Mathlib.Nat.{le-refl}
-use lib.Dec.{ltb, eqb}
-use borrow.Author.Tests.{ltb-false}
+use lib.Dec.{ltb}
 use Rattle.model.specs.declared.Control.{Control}
 use Rattle.model.specs.Record.{State, newest, inUpcall}
 use Rattle.model.specs.Word.{Op, immediate, arithmetic, load, store, branch, jump, readClock, setLabel, setPair, upcall, endUpcall, gateCall, gateReturn, halt}
 use Rattle.model.specs.Ops.{Row, table}
-use Rattle.model.specs.Step.{Fetched, failed, fetched, fetch, Decision, rest, spend, stall, close, carry, isCarried, endTick, finish, passed, attempt, inTime, plan, beyondLimit, inLimit, running, decide, controlAfter, changed, step}
+use Rattle.model.specs.Step.{Fetched, failed, fetched, fetch, Decision, rest, spend, stall, close, carry, isCarried, endTick, passed, attempt, inTime, plan, beyondLimit, inLimit, running, decide, controlAfter, changed, step}
 use Rattle.model.specs.Noninterference.{timedFromOutside}
 use Rattle.model.specs.Certificate.{releases, attempts, atLarge, breaks, watch}
-use Rattle.model.proofs.Truth.{choice, clash, and-iff, or-iff}
+use Rattle.model.proofs.Truth.{choice, clash, and-iff}
 use Rattle.model.proofs.WellFormed.{step-fixed, step-control}
-use Rattle.model.proofs.Step.{step-clock}
-use Rattle.engine.specs.Skim.{isCommonOp, fetchesCommon, isCommon, Skim, skim, fetchesRelabelling, ends, stride}
+use Rattle.parts.specs.Stages.{isCommonOp, fetchesCommon}
+use Rattle.sprint.specs.Skim.{isCommon, Skim, skim}
+use Rattle.engine.specs.Stride.{fetchesRelabelling}
 use Rattle.engine.proofs.Skimming.{common-keeps}
 
 -- ---- what a common op leaves
@@ -125,37 +124,3 @@ skimmed ℓ (suc n) s b =
       fixed = h .fixed ∙ step-fixed s;
     })
     (λ c. record { watched = refl; unbroken = b; fixed = refl })
-
--- ---- the clock
-
--- No step passes the limit.
-limited : (s : State) → s .control .clock ≤ s .fixed .limit → step s .control .clock ≤ step s .fixed .limit
-unfolding decide inLimit finish beyondLimit
-limited s h =
-    rw (step-clock s, step-fixed s)
-    (choice Limited (running s) _ _
-    (λ r.
-    choice Limited (beyondLimit s (plan s (fetch s))) _ _ (λ b. le-refl _)
-    (λ b.
-    ltb-false (s .fixed .limit) (finish s (plan s (fetch s)))
-    (or-iff (ltb (s .fixed .limit) (finish s (plan s (fetch s)))) (eqb (s .control .clock) (s .fixed .limit)) .0 b .0)))
-    (λ r. h))
-  where
-    Limited : Decision → Type 0
-    Limited d = finish s d ≤ s .fixed .limit
-
-skim-limited : (n : ℕ) (s : State) → s .control .clock ≤ s .fixed .limit
-    → skim n s .state .control .clock ≤ skim n s .state .fixed .limit
-unfolding skim
-skim-limited zero s h = h
-skim-limited (suc n) s h =
-    choice (λ (k : Skim). k .state .control .clock ≤ k .state .fixed .limit) (isCommon s) _ _
-    (λ c. skim-limited n (step s) (limited s h)) (λ c. h)
-
--- So no stride does.
-pub stride-limited : (n : ℕ) (s : State) → s .control .clock ≤ s .fixed .limit
-    → stride n s .state .control .clock ≤ stride n s .state .fixed .limit
-unfolding stride
-stride-limited n s h =
-    choice (λ (k : Skim). k .state .control .clock ≤ k .state .fixed .limit) (ends n (skim n s)) _ _
-    (λ e. skim-limited n s h) (λ e. limited (skim n s .state) (skim-limited n s h))

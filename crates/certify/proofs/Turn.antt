@@ -6,19 +6,17 @@ use mathlib.Core.Logic.{⊎-elim}
 use mathlib.Core.Bool.{Bool, true, false, not, _&&_, _||_, cond}
 use native.Mathlib.Omega.{arith}
 use lib.Dec.{ltb, eqb}
-use borrow.Author.Tests.{lt-ltb, ltb-true, eqb-true, eqb-false}
+use borrow.Author.Tests.{lt-ltb, eqb-true, eqb-false}
 use Rattle.model.specs.Record.{State, inUpcall}
-use Rattle.model.specs.Step.{fetch, running, step, steps}
+use Rattle.model.specs.Step.{fetch, step, steps}
 use Rattle.model.specs.Seen.{within}
 use Rattle.model.specs.Noninterference.{timedFromOutside}
 use Rattle.model.specs.Certificate.{attempts, leadsWithin, atLarge, Certificate, whole, releaseFrom, breaks, breakAt, watch, certify}
-use Rattle.model.proofs.Truth.{choice, either, and-iff, or-iff, or-true}
+use Rattle.model.proofs.Truth.{choice, either, or-iff}
 use Rattle.model.proofs.WellFormed.{step-fixed}
-use Rattle.model.proofs.Step.{step-ended}
-use Rattle.model.proofs.Certificate.Watch.{ended-quiet}
-use Rattle.engine.specs.Skim.{isCommon, Skim, skim, fetchesRelabelling, ends, stride}
-use Rattle.engine.proofs.Loop.{steps-one}
-use Rattle.engine.proofs.Skimming.{skim-steps, stride-ends, stride-goes, ends-first}
+use Rattle.sprint.specs.Skim.{isCommon, Skim, skim}
+use Rattle.engine.specs.Stride.{fetchesRelabelling, ends, stride}
+use Rattle.engine.proofs.Skimming.{skim-steps, skim-stays, stride-ends, stride-goes, ends-first}
 use Rattle.certify.specs.Inner.Breaks.{breakWith}
 use Rattle.certify.proofs.Steady.{keeping-quiet, common-quiet, Skimmed, skimmed}
 
@@ -101,21 +99,6 @@ pub resume-watch : (ℓ n : ℕ) (c : Certificate) (s : State) → eqb (c .cause
 unfolding resume
 resume-watch ℓ n c s e = rw e
 
--- An ended record breaks nothing any more.
-watch-ended : (ℓ n : ℕ) (s : State) → running s ≡ false → breaks ℓ s ≡ false → watch ℓ n s ≡ whole
-unfolding watch
-watch-ended ℓ zero s e b = refl
-watch-ended ℓ (suc n) s e b = rw (ended-quiet ℓ s e, step-ended s e, b) (watch-ended ℓ n s e b)
-
-pub resume-ended : (ℓ n : ℕ) (c : Certificate) (s : State) → running s ≡ false → (c .cause ≡ 0 → breaks ℓ s ≡ false)
-    → resume ℓ c n s ≡ resume ℓ c 0 s
-unfolding resume
-resume-ended ℓ n c s e b = go (eqb (c .cause) 0) refl
-  where
-    go : (d : Bool) → eqb (c .cause) 0 ≡ d → cond d (watch ℓ n s) c ≡ cond d (watch ℓ 0 s) c
-    go true f = watch-ended ℓ n s e (b (eqb-true (c .cause) 0 f)) ∙ sym (watch-ended ℓ 0 s e (b (eqb-true (c .cause) 0 f)))
-    go false f = refl
-
 -- ---- a stride
 
 -- The break of a stride from s to t.
@@ -154,11 +137,6 @@ pub record Turned (ℓ n : ℕ) (s : State) (k : Skim) : Type 0 where
   pub run : steps n s ≡ steps (k .left) (k .state)
   pub fixed : k .state .fixed ≡ s .fixed
 
-skim-stays : (n : ℕ) (s : State) → isCommon s ≡ false → skim n s ≡ record { state = s; left = n }
-unfolding skim
-skim-stays zero s e = refl
-skim-stays (suc n) s e = rw e
-
 skim-most : (n : ℕ) (s : State) → skim n s .left ≤ n
 unfolding skim
 skim-most zero s = omega arith
@@ -170,17 +148,11 @@ unfolding skim
 skim-fewer zero s h c = absurd (omega arith)
 skim-fewer (suc n) s h c = rw c (omega (arith, skim-most n (step s)))
 
--- A stride does a step at least.
-pub stride-fewer : (n : ℕ) (s : State) → 0 < n → stride n s .left < n
-unfolding stride ends
-stride-fewer n s h =
-    choice (λ (k : Skim). k .left < n) (ends n (skim n s)) _ _
-    (λ e.
-    ⊎-elim (λ (z : eqb (skim n s .left) 0 ≡ true). let i = eqb-true (skim n s .left) 0 z in omega arith)
-    (λ (z : (ltb (skim n s .left) n && fetchesRelabelling (fetch (skim n s .state))) ≡ true).
-    ltb-true (skim n s .left) n (and-iff (ltb (skim n s .left) n) (fetchesRelabelling (fetch (skim n s .state))) .0 z .0))
-    (or-true (eqb (skim n s .left) 0) (ltb (skim n s .left) n && fetchesRelabelling (fetch (skim n s .state))) e))
-    (λ e. omega (arith, skim-most n s))
+-- One of some steps, and the rest of them.
+steps-one : (n : ℕ) (s : State) → 0 < n → steps n s ≡ steps (n - 1) (step s)
+unfolding steps
+steps-one zero s h = absurd (omega arith)
+steps-one (suc n) s h = let e : n ≡ suc n - 1 = omega arith in ap (λ (m : ℕ). steps m (step s)) e
 
 -- A step that does no common op.
 turn-rest : (ℓ n : ℕ) (s : State) → 0 < n → isCommon s ≡ false → Turned ℓ n s (stride n s)

@@ -3,8 +3,9 @@
 use breaks::break_of;
 use breaks::leads_within;
 use causes::Outcome;
-use engine::steps::advance;
-use engine::steps::stride;
+use engine::Pace;
+use engine::Task;
+use engine::advance;
 use loader::load;
 use machine::Machine;
 use model::Control;
@@ -15,15 +16,12 @@ use release::releases;
 use writer::write_line;
 ghost use Prim.Native.Nat.{_≤_};
 ghost use mathlib.Core.Path.{_≡_};
-ghost use mathlib.Core.Bool.{cond};
-ghost use lib.Dec.{eqb};
 ghost use lib.ListN.{length, take};
 ghost use Rattle.model.specs.Record.{stateOf, lent};
 ghost use Rattle.model.specs.Certificate.{certifying, certifyAlone};
-ghost use Rattle.engine.specs.Inner.Drive.{InRanges};
 ghost use Rattle.machine.specs.Answered.{recordOf};
 ghost use Rattle.certify.specs.Certified.{certificateOf, certifyingOf};
-ghost use Rattle.certify.specs.Inner.Watch.{firstWith, Watched};
+ghost use Rattle.certify.specs.Inner.Watch.{firstWith, stepsLeft, Loaded, Watched};
 
 mod breaks;
 mod release;
@@ -78,16 +76,21 @@ fn first_break(label: u8, opened: bool, attempted: bool, place: u32, after: Cont
     break_of(label, opened, after)
 }
 
-// How many of these steps are left to look at: of an ended record none is.
-fn steps_left(end: u8, left: u32) -> u32
-    ensures { λ r. ⌜ r ≡ cond (eqb end 0) left 0 ⌝ }
+// How many steps are left to look at, at the most: of an ended record none is.
+fn steps_left(limit: u32, control: Control) -> u32
+    requires { ⌜ (control .clock ≤ limit) × (limit ≤ 16777216) ⌝ }
+    ensures { λ r. ⌜ r ≡ stepsLeft limit control ⌝ }
 {
-    if end == 0 { left } else { 0 }
+    if control.end == 0 {
+        limit - control.clock + 1
+    } else {
+        0
+    }
 }
 
 // The first break of the run from a loaded machine on. The run goes on to its end behind it.
 fn watch(label: u8, machine: Machine, words: &mut [u32], marks: &[u8]) -> Certificate
-    requires { ⌜ InRanges (machine .fixed) (machine .control) (now words) (now marks) ⌝ }
+    requires { ⌜ Loaded (stateOf (recordOf machine) (lent (now words) (now marks))) ⌝ }
     ensures { λ r. ⌜ Watched label (stateOf (recordOf machine) (lent (now (words .entry)) (now (marks .entry)))) r (now (words .exit)) (now (marks .entry)) ⌝ }
 {
     let fixed = machine.fixed;
@@ -96,29 +99,27 @@ fn watch(label: u8, machine: Machine, words: &mut [u32], marks: &[u8]) -> Certif
     let mut labels = machine.labels;
     let opened = leads_within(label, fixed);
     let mut found = break_of(label, opened, control);
-    let mut left = fixed.limit - control.clock + 1;
+    let mut left = steps_left(fixed.limit, control);
     while (found.cause == 0) & (0 < left) {
         let pair = control.pair;
         let place = control.pc;
         let word = relabelling(fixed.size, place, pair.pc, words, marks);
         let attempted = has_time(fixed.limit, control)
             & releases(label, pair.pc, word, &values, &labels);
-        let halted = stride(fixed, control, left, &mut values, &mut labels, words, marks);
-        control = halted.control;
+        let task = Task {
+            start: control,
+            pace: Pace::Stride,
+        };
+        control = advance(fixed, task, &mut values, &mut labels, words, marks);
         found = first_break(label, opened, attempted, place, control);
-        left = steps_left(control.end, halted.left);
+        left = steps_left(fixed.limit, control);
     }
     let end = fixed.limit as u64;
-    advance(
-        fixed,
-        control,
-        left,
-        end,
-        &mut values,
-        &mut labels,
-        words,
-        marks,
-    );
+    let task = Task {
+        start: control,
+        pace: Pace::Onward(end),
+    };
+    advance(fixed, task, &mut values, &mut labels, words, marks);
     found
 }
 

@@ -1,11 +1,10 @@
 // Attempts to release a register: what the next step tries, whether or not the register's own label allows it.
 use crate::breaks::is_within;
-use engine::steps::RELABEL;
-use engine::steps::deadline_of;
 use labels::LABEL_COUNT;
 use labels::Label;
 use model::Control;
 use model::numbers::REGISTER_COUNT;
+use parts::calls::deadline_of;
 use parts::calls::newest;
 use parts::word::a_of;
 use parts::word::b_of;
@@ -16,7 +15,9 @@ ghost use mathlib.Core.Path.{_≡_};
 ghost use lib.ListN.{length};
 ghost use Rattle.certify.specs.Inner.Release.{relabellingAt, triesWith, releasesWith, hasTime};
 
-// The ticks of an op that relabels.
+// The number of the op that relabels, and its ticks.
+const RELABEL: u32 = 16;
+
 const TICKS: u32 = 2;
 
 // What the fetch gives: a word that relabels, or anything else.

@@ -1,10 +1,7 @@
--- Laws that the proofs of the functions cite: numbers, a turn of the hot loop, the loop, what is decided where it stops, a
--- verdict carried out, and the steps in turn.
-pub mod Numbers
-pub mod Turns
-pub mod Loop
+-- Laws that the proofs of the functions cite: turned labels, common ops skimmed, what is decided where the hot loop stops,
+-- the steps in turn, and what a well-formed record has of what they ask.
+pub mod Mirroring
 pub mod Skimming
-pub mod Verdicts
-pub mod Nearer
-pub mod Applied
+pub mod Settling
 pub mod Driving
+pub mod Fitting

@@ -1,38 +1,40 @@
--- So many steps by a tick, and a stride of steps, as the public calls promise them.
+-- The steps that are asked for, as the public call promises them.
 -- Assumes nothing.
 use Prim.Native.Nat.{ℕ}
-use mathlib.Core.Bool.{Bool, _&&_, cond}
-use mathlib.Core.List.{List}
-use lib.Dec.{leb}
-use Rattle.model.specs.declared.Fixed.{Fixed}
-use Rattle.model.specs.declared.Control.{Control}
+use mathlib.Core.Bool.{Bool, true, _&&_, cond}
+use lib.Dec.{leb, ltb}
+use Rattle.model.specs.declared.Call.{Call}
+use Rattle.model.specs.declared.Call.the-variants.{Empty, Gate, Upcall}
 use Rattle.model.specs.Numbers.{mostWords, mostTicks, mostGates}
-use Rattle.model.specs.Record.{State, lent}
+use Rattle.model.specs.Record.{State}
 use Rattle.model.specs.WellFormed.{lentWhole}
-use Rattle.model.specs.Step.{stepsBy}
-use Rattle.engine.specs.declared.steps.drive.Halted.{Halted}
-use Rattle.engine.specs.Skim.{Skim, stride}
+use Rattle.model.specs.Step.{step, runTo}
+use Rattle.parts.specs.Calls.{newestOf}
+use Rattle.parts.specs.Live.{stacks}
+use Rattle.engine.specs.declared.Pace.{Pace}
+use Rattle.engine.specs.declared.Pace.the-variants.{Once, Onward, Stride}
+use Rattle.engine.specs.Stride.{strode}
 
--- The state of these parts.
-abbrev pub stateFrom : Fixed → Control → List ℕ → List ℕ → List ℕ → List ℕ → State
-stateFrom fixed control values labels words marks =
-    record { fixed = fixed; control = control; registers = record { values = values; labels = labels }; memory = lent words marks }
+-- A call, if it is an upcall, ends at the clock or later.
+abbrev pub isTimely : ℕ → Call → Bool
+isTimely clock Empty = true
+isTimely clock (Gate k q) = true
+isTimely clock (Upcall k q e) = leb clock e
 
--- The ranges hold that the steps rest on, and words and labels are lent whole.
+-- The ranges hold that the steps rest on, words and labels are lent whole, and the calls are as a machine stacks them.
 abbrev pub fitting : State → Bool
 fitting s =
     leb (s .fixed .size) mostWords && leb (s .fixed .limit) mostTicks && leb (s .fixed .count) mostGates
     && leb (s .control .clock) (s .fixed .limit) && lentWhole (s .fixed .size) (s .memory)
+    && (stacks (s .control .first) (s .control .second)
+    && isTimely (s .control .clock) (newestOf (s .control .first) (s .control .second)))
 
--- So many steps of such a state that finish by tick k. Any other stays as it is.
-abbrev pub advanced : ℕ → ℕ → State → State
-advanced k n s = cond (fitting s) (stepsBy k n s) s
+-- The steps at a pace: one; those of a run that finish by tick k, if the clock isn't past it; or a stride.
+abbrev pub paced : Pace → State → State
+paced Once s = step s
+paced (Onward k) s = cond (ltb k (s .control .clock)) s (runTo k s)
+paced Stride s = strode s
 
--- What `stride` gives back and leaves.
-abbrev pub strodeFrom : Fixed → Halted → List ℕ → List ℕ → List ℕ → List ℕ → Skim
-strodeFrom fixed r values labels words marks =
-    record { state = stateFrom fixed (r .control) values labels words marks; left = r .left }
-
--- A stride of so many steps at the most, of such a state.
-abbrev pub strode : ℕ → State → Skim
-strode n s = cond (fitting s) (stride n s) (record { state = s; left = n })
+-- The steps of such a state. Any other stays as it is.
+abbrev pub advanced : Pace → State → State
+advanced pace s = cond (fitting s) (paced pace s) s

@@ -1,6 +1,2 @@
--- What the contracts of inner functions cite, which the public promises don't.
-pub mod Common
-pub mod Sprint
-pub mod Rest
-pub mod Apply
+-- What the contracts of inner functions cite, which the public promise doesn't.
 pub mod Drive

@@ -1,5 +1,4 @@
-pub mod Skim
-pub mod Calls
+pub mod Stride
 pub mod Advance
 -- What only the contracts of inner functions cite.
 pub mod Inner

@@ -1,7 +1,7 @@
 -- Laws about the whole record: when it is well-formed, and what a call answers.
 -- Assumes nothing.
-use Prim.Native.Nat.{ℕ, _+_, _-_, _≤_}
-use mathlib.Core.Path.{_≡_, refl, ap, ap₂, _∙_}
+use Prim.Native.Nat.{ℕ, _+_, _-_}
+use mathlib.Core.Path.{_≡_, refl, sym, ap, _∙_}
 use mathlib.Core.Bool.{true, false, _&&_}
 use mathlib.Core.List.{List}
 use native.Mathlib.Nat.{le-refl}
@@ -13,18 +13,21 @@ use Rattle.model.specs.declared.Request.{Request}
 use Rattle.model.specs.declared.Request.the-variants.{Step, Run, RunTo}
 use Rattle.model.specs.declared.Call.{Call}
 use Rattle.model.specs.declared.Call.the-variants.{Empty, Gate, Upcall}
-use Rattle.model.specs.Record.{State, machineOf, isEmpty, lent}
-use Rattle.model.specs.Record as records
+use lib.Dec.{ltb}
+use borrow.Author.Tests.{le-ltb, ltb-true}
+use Rattle.model.specs.Record.{State, machineOf, stateFrom, isEmpty, lent}
 use Rattle.model.specs.WellFormed.{isValid, upcallWellFormed, callsWellFormed, wellFormed, lentWhole}
-use Rattle.model.specs.Step.{steps, run, stepsBy, runTo}
+use Rattle.model.specs.Step.{run, runTo}
 use Rattle.model.specs.Answer.{answer, work, answerOf}
-use Rattle.model.proofs.Ready.{fit, whole-lengths}
-use Rattle.model.proofs.RunTo.{unbarred}
+use Rattle.model.proofs.Truth.{choice}
+use Rattle.model.proofs.Ready.{fit}
+use Rattle.model.proofs.RunTo.{unbarred, past-stays}
 use Rattle.machine.specs.declared.Machine.{Machine}
-use Rattle.engine.specs.Advance.{stateFrom}
-use Rattle.engine.specs.Inner.Drive.{InRanges}
+use Rattle.engine.specs.declared.Pace.{Pace}
+use Rattle.engine.specs.Advance.{paced, advanced}
+use Rattle.engine.proofs.Fitting.{ready-fitting}
 use Rattle.machine.specs.Answered.{recordOf, answered}
-use Rattle.machine.specs.Inner.Carried.{countOf, tickOf, Carried}
+use Rattle.machine.specs.Inner.Carried.{paceOf, Carried}
 use Rattle.machine.specs.Inner.WellFormed.{overGate}
 
 -- ---- the two places for open calls, by the first
@@ -45,45 +48,32 @@ calls-upcall c k q e Empty = refl
 calls-upcall c k q e (Gate k′ q′) = refl
 calls-upcall c k q e (Upcall k′ q′ e′) = refl
 
--- ---- what a well-formed record says
-
--- The ranges that the steps ask, with memory that is lent whole.
-pub ranges-of : (r : records.Machine) → wellFormed r ≡ true → (m : records.Bank) → lentWhole (r .fixed .size) m ≡ true
-    → InRanges (r .fixed) (r .control) (m .values) (m .labels)
-ranges-of r e m h =
-    let f = fit r e in
-    let w = whole-lengths _ m h in
-    record {
-      size = f .fixed .sizeHigh;
-      limit = f .fixed .limitHigh;
-      gates = f .fixed .gates;
-      clock = f .clock;
-      words = w .0;
-      marks = w .1;
-    }
-
 -- ---- what a call answers
 
--- One step, or as many as a run can take: the tick of a step and of a run is the limit, which bars none.
-counted : (q : Request) (s : State) → s .control .clock ≤ s .fixed .limit
-    → stepsBy (tickOf q (s .fixed .limit)) (countOf q (s .fixed .limit) (s .control .clock)) s ≡ work q s
-unfolding steps run runTo
-counted Step s c = unbarred (s .fixed .limit) 1 s c (le-refl _)
-counted Run s c = unbarred (s .fixed .limit) (s .fixed .limit - s .control .clock + 1) s c (le-refl _)
-counted (RunTo k) s c = refl
+-- The steps at a request's pace are what is asked for: of a run the limit bars none, and a run to a tick that is past does
+-- nothing.
+paced-work : (q : Request) (s : State) → wellFormed (machineOf s) ≡ true → paced (paceOf q (s .fixed .limit)) s ≡ work q s
+unfolding run runTo
+paced-work Step s w = refl
+paced-work Run s w =
+    let f = fit (machineOf s) w in
+    rw (le-ltb (s .fixed .limit) (s .control .clock) (f .clock))
+    (unbarred (s .fixed .limit) (s .fixed .limit - s .control .clock + 1) s (f .clock) (le-refl _))
+paced-work (RunTo k) s w =
+    choice (λ (t : State). t ≡ runTo k s) (ltb k (s .control .clock)) _ _
+    (λ e. sym (past-stays k s (fit (machineOf s) w) (ltb-true k (s .control .clock) e))) (λ e. refl)
 
-pub carried-of : {q : Request} {m : Machine} {count tick : ℕ} {words labels : List ℕ} {control : Control} {values marks words′ : List ℕ}
-    → m .control .clock ≤ m .fixed .limit → count ≡ countOf q (m .fixed .limit) (m .control .clock) → tick ≡ tickOf q (m .fixed .limit)
-    → stateFrom (m .fixed) control values marks words′ labels ≡ stepsBy tick count (stateFrom (m .fixed) (m .control) (m .values) (m .labels) words labels)
-    → Carried q m words labels (record { fixed = m .fixed; control = control; values = values; labels = marks }) words′ labels
-carried-of {q} {m} {count} {tick} {words} {labels} {control} {values} {marks} {words′} c e f h =
+pub carried-of : {q : Request} {m : Machine} {pace : Pace} {words marks : List ℕ} {control : Control} {values labels words′ : List ℕ}
+    → wellFormed (recordOf m) ≡ true → lentWhole (m .fixed .size) (lent words marks) ≡ true → pace ≡ paceOf q (m .fixed .limit)
+    → stateFrom (m .fixed) control values labels words′ marks ≡ advanced pace (stateFrom (m .fixed) (m .control) (m .values) (m .labels) words marks)
+    → Carried q m words marks (record { fixed = m .fixed; control = control; values = values; labels = labels }) words′ marks
+carried-of {q} {m} {pace} {words} {marks} {control} {values} {labels} {words′} w l e h =
     record { machine = ap machineOf there; memory = ap (λ (s : State). s .memory) there }
   where
-    there : stateFrom (m .fixed) control values marks words′ labels ≡ work q (stateFrom (m .fixed) (m .control) (m .values) (m .labels) words labels)
+    there : stateFrom (m .fixed) control values labels words′ marks ≡ work q (stateFrom (m .fixed) (m .control) (m .values) (m .labels) words marks)
     there =
-        h
-        ∙ ap₂ (λ (k n : ℕ). stepsBy k n (stateFrom (m .fixed) (m .control) (m .values) (m .labels) words labels)) f e
-        ∙ counted q (stateFrom (m .fixed) (m .control) (m .values) (m .labels) words labels) c
+        let s = stateFrom (m .fixed) (m .control) (m .values) (m .labels) words marks in
+        h ∙ rw (ready-fitting s w l, e) (paced-work q s w)
 
 module _ (q : Request) (m : Machine) (words labels : List ℕ) where
   -- 7 where the record is not well-formed.

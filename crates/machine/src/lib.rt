@@ -1,6 +1,7 @@
 // The machine: its record, what its calls answer, and whether the record is well-formed. One step and the run are in
 // steps.rt.
 use causes::Outcome;
+use labels::Bits;
 use labels::Label;
 use model::Call;
 use model::CallGate;
@@ -28,19 +29,19 @@ pub struct Machine {
     pub fixed: Fixed,
     pub control: Control,
     pub values: [u32; REGISTER_COUNT],
-    pub labels: [u8; REGISTER_COUNT],
+    pub labels: [Bits; REGISTER_COUNT],
 }
 
-// Whether the lent words and labels are each at least as long as the size.
-pub fn is_lent_whole(size: u32, words: &[u32], labels: &[u8]) -> bool
-    ensures { λ r. ⌜ r ≡ lentWhole size (lent (now (words .entry)) (now (labels .entry))) ⌝ }
+// Whether the lent words and their labels, the marks, are each at least as long as the size.
+pub fn is_lent_whole(size: u32, words: &[u32], marks: &[Bits]) -> bool
+    ensures { λ r. ⌜ r ≡ lentWhole size (lent (now (words .entry)) (now (marks .entry))) ⌝ }
 {
     let count = size as usize;
-    (count <= words.len()) & (count <= labels.len())
+    (count <= words.len()) & (count <= marks.len())
 }
 
 // Whether a register or word has value 0 and the lowest label.
-pub fn is_blank(label: u8, value: u32) -> bool
+pub fn is_blank(label: Bits, value: u32) -> bool
     ensures { λ r. ⌜ r ≡ isBlank label value ⌝ }
 {
     (value == 0) & Label(label).is_lowest()

@@ -1,4 +1,5 @@
 // Whether a record is well-formed.
+use labels::Bits;
 use labels::Label;
 use model::Call;
 use model::CallGate;
@@ -55,7 +56,7 @@ fn is_absent(call: Call) -> bool
 const END_TICKS: u64 = 8589934592;
 
 // What is asked of an upcall's kept pair and end tick.
-fn upcall_well_formed(p: u8, t: u8, clock: u32, kept: Pair, end: u64) -> bool
+fn upcall_well_formed(p: Bits, t: Bits, clock: u32, kept: Pair, end: u64) -> bool
     ensures { λ r. ⌜ ((c : Control) → r ≡ upcallWellFormed (controlAt c p t clock) kept end) ⌝ }
 {
     let q = Label(kept.pc);
@@ -68,7 +69,7 @@ fn upcall_well_formed(p: u8, t: u8, clock: u32, kept: Pair, end: u64) -> bool
 }
 
 // The place above a gate call whose pair is valid or not.
-fn over_gate(valid: bool, p: u8, t: u8, clock: u32, second: Call) -> bool
+fn over_gate(valid: bool, p: Bits, t: Bits, clock: u32, second: Call) -> bool
     ensures { λ r. ⌜ ((c : Control) → r ≡ overGate valid (controlAt c p t clock) second) ⌝ }
 {
     match second {
@@ -79,7 +80,7 @@ fn over_gate(valid: bool, p: u8, t: u8, clock: u32, second: Call) -> bool
 }
 
 // The two places for open calls.
-pub(in crate) fn calls_well_formed(p: u8, t: u8, clock: u32, first: Call, second: Call) -> bool
+pub(in crate) fn calls_well_formed(p: Bits, t: Bits, clock: u32, first: Call, second: Call) -> bool
     ensures { λ r. ⌜ ((c : Control) → r ≡ callsWellFormed (controlAt c p t clock) first second) ⌝ }
 {
     match first {

@@ -23,7 +23,7 @@ use Rattle.model.proofs.Step.{there, step-write}
 use Rattle.model.proofs.Noninterference.Sight as sight
 use Rattle.model.proofs.Noninterference.Sight.{Alike, DownSet, inside, exists-size, same-location, seen-equal}
 use Rattle.model.proofs.Noninterference.Hidden.{running-end}
-use Rattle.model.proofs.Noninterference.Visible.{Together, Shows, label-set, row-equal, fetch-same, in-time-late, one-control, step-label, step-value}
+use Rattle.model.proofs.Noninterference.Visible.{Together, Shows, label-set, row-equal, fetch-same, in-time-late, one-control, step-leaves}
 use Rattle.model.proofs.Relabelling.{Relabelling, relabelling}
 
 -- ---- the labels
@@ -72,7 +72,7 @@ module _ (j s : ℕ) (o : subset s j ≡ false) (a : State) (r : Ready a) (x : L
 
 released : (j s : ℕ) → subset s j ≡ false → (a : State) → Ready a → (x : Location) → Releases s a x → Released j a x
 released j s o a r x h =
-    released-by j s o a r x (h .before) refl (step-write a r) (sym (ap (secret s) (step-label a x)) ∙ h .after)
+    released-by j s o a r x (h .before) refl (step-write a r) (sym (ap (secret s) (step-leaves a x .0)) ∙ h .after)
 
 -- ---- one decision in both
 
@@ -106,7 +106,7 @@ module _ (c : Control) (a b : State) (limit : a .fixed .limit ≡ b .fixed .limi
 
 -- A step that sets a label leaves every value.
 value-kept : (s : State) (x y : Location) (l : ℕ) → writeOf s (decide s) ≡ label y l → valueAt (step s) x ≡ valueAt s x
-value-kept s x y l e = step-value s x ∙ ap (λ (w : Write). valueAt (written s w) x) e ∙ value-after-label s y x l
+value-kept s x y l e = step-leaves s x .1 ∙ ap (λ (w : Write). valueAt (written s w) x) e ∙ value-after-label s y x l
 
 -- A release under one control, and the step of the other.
 module _ {j : ℕ} {c : Control} {a b : State} (h : Together (trusted j) c a b) {x : Location} (k : Released j (withControl a c) x) where

@@ -1,18 +1,22 @@
--- The laws of the run to a tick: it is so many steps; at the limit or beyond it bars nothing; and it leaves what a step
--- leaves.
+-- The laws of the run to a tick: it is so many steps; at the limit or beyond it bars nothing; it leaves what a step
+-- leaves; and to a tick that is past it does nothing.
 -- Assumes nothing.
-use Prim.Native.Nat.{ℕ, zero, suc, _+_, _-_, _≤_}
+use Prim.Native.Nat.{ℕ, zero, suc, _+_, _-_, _≤_, _<_}
 use mathlib.Core.Path.{_≡_, refl, sym, ap, _∙_, subst}
 use mathlib.Core.Logic.{⊎-elim}
-use mathlib.Core.Bool.{true, false}
+use mathlib.Core.Bool.{true, false, _&&_}
 use native.Mathlib.Nat.{le-refl, le-trans}
-use borrow.Author.Tests.{ltb-false, le-leb}
-use Rattle.model.specs.Record.{State}
-use Rattle.model.specs.Step.{Decision, plan, fetch, finish, beyondLimit, inLimit, running, decide, step, steps, run, finishesBy, stepBy, stepsBy, runTo}
-use Rattle.model.proofs.Truth.{choice, either, or-iff}
+use native.Mathlib.Omega.{arith}
+use lib.Dec.{ltb, eqb}
+use borrow.Author.Tests.{ltb-false, le-leb, lt-leb}
+use Rattle.model.specs.Record.{State, machineOf, inUpcall}
+use Rattle.model.specs.Word.{Op, immediate, arithmetic, load, store, branch, jump, readClock, setLabel, setPair, upcall, endUpcall, gateCall, gateReturn, halt}
+use Rattle.model.specs.Ops.{table}
+use Rattle.model.specs.Step.{Decision, rest, spend, stall, close, carry, Fetched, failed, fetched, endTick, passed, attempt, inTime, fault, plan, fetch, finish, beyondLimit, inLimit, running, decide, step, steps, run, finishesBy, stepBy, stepsBy, runTo}
+use Rattle.model.proofs.Truth.{choice, either, and-iff, or-iff}
 use Rattle.model.proofs.WellFormed.{step-fixed}
-use Rattle.model.proofs.Ready.{Ready}
-use Rattle.model.proofs.Step.{step-clock, step-ended}
+use Rattle.model.proofs.Ready.{Ready, Fit}
+use Rattle.model.proofs.Step.{end-tick-late, step-clock, step-ended}
 use Rattle.model.proofs.Run.{steps-ready, Leaves, steps-leave}
 
 -- ---- one step of it
@@ -96,3 +100,78 @@ unfolding runTo
 run-to-leaves k s r =
     let h = by-steps k (s .fixed .limit - s .control .clock + 1) s in
     subst (Leaves s) (sym (h .state)) (steps-leave (h .count) s r)
+
+-- ---- a tick that is past
+
+-- What is closed is an upcall.
+abbrev Closing : State → Decision → Type 0
+Closing s rest = Unit
+Closing s spend = Unit
+Closing s (stall why) = Unit
+Closing s (close cause) = inUpcall (s .control) ≡ true
+Closing s (carry ticks change) = Unit
+
+-- An op that passes its check closes one only if it is op 19, in an upcall.
+row-closing : (s : State) (w : ℕ) (op : Op) → table s w op .check ≡ true → Closing s (passed (table s w op .ticks) (table s w op .effect))
+unfolding table
+row-closing s w immediate e = tt
+row-closing s w (arithmetic f) e = tt
+row-closing s w load e = tt
+row-closing s w store e = tt
+row-closing s w (branch f) e = tt
+row-closing s w jump e = tt
+row-closing s w readClock e = tt
+row-closing s w (setLabel f) e = tt
+row-closing s w setPair e = tt
+row-closing s w upcall e = tt
+row-closing s w endUpcall e = e
+row-closing s w gateCall e = tt
+row-closing s w gateReturn e = tt
+row-closing s w halt e = tt
+
+attempt-closing : (s : State) (w : ℕ) (op : Op) → Closing s (attempt s (table s w op))
+unfolding attempt
+attempt-closing s w op =
+    choice (Closing s) (table s w op .check) _ _ (row-closing s w op)
+    (λ e. choice (Closing s) (table s w op .strict && inUpcall (s .control)) _ _
+    (λ k. and-iff (table s w op .strict) (inUpcall (s .control)) .0 k .1) (λ k. tt))
+
+in-time-closing : (s : State) (d : Decision) → Closing s d → Closing s (inTime s d)
+in-time-closing s rest h = tt
+in-time-closing s spend h = tt
+in-time-closing s (stall why) h = tt
+in-time-closing s (close cause) h = h
+in-time-closing s (carry ticks change) h =
+    choice (Closing s) (inUpcall (s .control) && ltb (endTick s) (s .control .clock + ticks)) _ _
+    (λ e. and-iff (inUpcall (s .control)) (ltb (endTick s) (s .control .clock + ticks)) .0 e .0) (λ e. tt)
+
+plan-closing : (s : State) (f : Fetched) → Closing s (plan s f)
+unfolding fault
+plan-closing s (failed why) =
+    choice (Closing s) (inUpcall (s .control)) _ _ (λ e. e)
+    (λ e. choice (Closing s) (eqb (s .control .pc) (s .fixed .errorpc)) _ _ (λ k. tt) (λ k. tt))
+plan-closing s (fetched w op) = in-time-closing s (attempt s (table s w op)) (attempt-closing s w op)
+
+decide-closing : (s : State) → Closing s (decide s)
+unfolding decide inLimit
+decide-closing s =
+    choice (Closing s) (running s) _ _
+    (λ r. choice (Closing s) (beyondLimit s (plan s (fetch s))) _ _ (λ e. tt) (λ e. plan-closing s (fetch s)))
+    (λ r. tt)
+
+-- A step of a fit record finishes at its clock or later.
+finish-later : (s : State) → Fit (machineOf s) → s .control .clock ≤ finish s (decide s)
+unfolding finish
+finish-later s f = go (decide s) (decide-closing s)
+  where
+    go : (d : Decision) → Closing s d → s .control .clock ≤ finish s d
+    go rest h = le-refl _
+    go spend h = f .clock
+    go (stall why) h = le-refl _
+    go (close cause) h = omega (arith, end-tick-late s f h)
+    go (carry ticks change) h = omega arith
+
+-- So a run to a tick that is past does nothing.
+pub past-stays : (k : ℕ) (s : State) → Fit (machineOf s) → k < s .control .clock → runTo k s ≡ s
+unfolding runTo finishesBy
+past-stays k s f h = late-stays k _ s (lt-leb (finish s (decide s)) k (omega (arith, h, finish-later s f)))

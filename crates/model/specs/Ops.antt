@@ -68,7 +68,7 @@ strictRow check effect ticks = record { check = check; effect = effect; ticks = 
 unfoldable pub writable : ℕ → Bool
 writable k = ltb zeroRegister k
 
--- A label read from a register must be at most 255.
+-- What is read from a register as a label must be one.
 unfoldable pub isLabel : ℕ → Bool
 isLabel v = ltb v labelCount
 

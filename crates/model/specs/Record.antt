@@ -43,6 +43,11 @@ stateOf r m = record { fixed = r .fixed; control = r .control; registers = r .re
 abbrev pub lent : List ℕ → List ℕ → Bank
 lent words labels = record { values = words; labels = labels }
 
+-- The state of these parts: register values and labels, words and their labels.
+abbrev pub stateFrom : Fixed → Control → List ℕ → List ℕ → List ℕ → List ℕ → State
+stateFrom fixed control values labels words marks =
+    record { fixed = fixed; control = control; registers = record { values = values; labels = labels }; memory = lent words marks }
+
 -- A location: a register by its number, or a word by its address.
 pub data Location : Type 0 where
   register : ℕ → Location

@@ -5,12 +5,13 @@ pub mod format;
 pub mod judging;
 pub mod numbers;
 
+use labels::Bits;
 use numbers::MOST_GATES;
 
 // A pc label and a timing label (the paper's place label p and clock label t).
 pub struct Pair {
-    pub pc: u8,
-    pub timing: u8,
+    pub pc: Bits,
+    pub timing: Bits,
 }
 
 // A call gate: where a gate call through it goes on, and under which pair.

@@ -1,9 +1,10 @@
 // Open calls: which is the newest, of which kind it is, and what it keeps.
 use model::Call;
 use model::Pair;
+ghost use Prim.Native.Nat.{_≤_};
 ghost use mathlib.Core.Path.{_≡_};
 ghost use Rattle.model.specs.Record.{isEmpty, isGate, isUpcall, pairOf, returnOf, endTickOf};
-ghost use Rattle.parts.specs.Calls.{newestOf};
+ghost use Rattle.parts.specs.Calls.{newestOf, nearer, deadlineOf};
 
 // The newest of two open calls.
 pub fn newest(first: Call, second: Call) -> Call
@@ -76,4 +77,24 @@ pub fn return_pc(call: Call) -> u32
         Call::Gate(k, _) => k,
         Call::Upcall(k, _, _) => k,
     }
+}
+
+// The nearer of a tick and the limit.
+pub fn nearer(tick: u64, limit: u32) -> u32
+    ensures { λ r. ⌜ (r ≡ nearer tick limit) × (r ≤ limit) ⌝ }
+{
+    if tick < limit as u64 {
+        return tick as u32;
+    }
+    limit
+}
+
+// The tick by which a common op has to finish while this call is the newest.
+pub fn deadline_of(limit: u32, call: Call) -> u32
+    ensures { λ r. ⌜ (r ≡ deadlineOf (isUpcall call) (endTickOf call) limit) × (r ≤ limit) ⌝ }
+{
+    if is_upcall(call) {
+        return nearer(end_tick(call), limit);
+    }
+    limit
 }

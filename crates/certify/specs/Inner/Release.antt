@@ -8,18 +8,23 @@ use lib.ListN.{getD}
 use Rattle.labels.specs.Label.{flows, reflection}
 use Rattle.model.specs.declared.Control.{Control}
 use Rattle.model.specs.Record.{isUpcall, endTickOf, newest}
-use Rattle.model.specs.Word.{opField, aField, bField}
+use Rattle.model.specs.Word.{opField, aField, bField, decode}
 use Rattle.model.specs.Ops.{isLabel}
+use Rattle.model.specs.Step.{known}
 use Rattle.model.specs.Seen.{within}
-use Rattle.engine.specs.Calls.{deadlineOf}
-use Rattle.engine.specs.Skim.{relabelOp}
+use Rattle.parts.specs.Calls.{deadlineOf}
+use Rattle.engine.specs.Stride.{fetchesRelabelling}
 use Rattle.certify.specs.declared.release.Found.{Found}
 use Rattle.certify.specs.declared.release.Found.the-variants.{Word, Nothing}
+
+-- The op of a word relabels.
+abbrev pub relabels : ℕ → Bool
+relabels w = fetchesRelabelling (known w (decode (opField w)))
 
 -- What is fetched at the pc under the pc label p, with these words and labels: a word that relabels, or anything else.
 unfoldable pub relabellingAt : ℕ → ℕ → ℕ → List ℕ → List ℕ → Found
 relabellingAt size pc p words marks =
-    cond (ltb pc size && flows (getD marks pc 0) p && eqb (opField (getD words pc 0)) relabelOp) (Word (getD words pc 0)) Nothing
+    cond (ltb pc size && flows (getD marks pc 0) p && relabels (getD words pc 0)) (Word (getD words pc 0)) Nothing
 
 -- A register labelled `old` is to get the label `new`, which is labelled `source`, under p: a release to within ℓ.
 unfoldable pub triesWith : ℕ → ℕ → ℕ → ℕ → ℕ → Bool

@@ -1,55 +1,93 @@
--- So many steps, as the function that does them promises them.
+-- The steps of a machine that fits, as the functions that do them promise them.
 -- Assumes nothing.
-use Prim.Native.Nat.{ℕ, _+_, _≤_}
+use Prim.Native.Nat.{ℕ, _+_, _≤_, _<_}
 use mathlib.Core.Path.{_≡_}
-use mathlib.Core.Bool.{Bool, true, false, _&&_, _||_}
+use mathlib.Core.Logic.{_⊎_}
+use mathlib.Core.Bool.{Bool, true, false}
 use mathlib.Core.List.{List}
-use lib.Dec.{ltb, eqb}
-use lib.ListN.{length}
-use Rattle.model.specs.declared.Pair.{Pair}
-use Rattle.model.specs.declared.Call.{Call}
+use lib.Dec.{eqb}
+use lib.ListN.{length, getD}
 use Rattle.model.specs.declared.Fixed.{Fixed}
 use Rattle.model.specs.declared.Control.{Control}
 use Rattle.model.specs.Numbers.{mostWords, mostTicks, mostGates}
-use Rattle.model.specs.Record.{isUpcall, endTickOf}
+use Rattle.model.specs.Record.{stateFrom, isUpcall}
 use Rattle.model.specs.Word.{opField}
-use Rattle.model.specs.Step.{stepsBy}
-use Rattle.engine.specs.declared.steps.common.Stop.{Stop}
-use Rattle.engine.specs.declared.steps.common.Stop.the-variants.{Out, Late, Outside, Unreadable, Failed, Rest}
-use Rattle.engine.specs.declared.steps.common.Context.{Context}
-use Rattle.engine.specs.declared.steps.drive.Halted.{Halted}
-use Rattle.engine.specs.declared.steps.rest.Verdict.{Verdict}
-use Rattle.engine.specs.declared.steps.rest.Verdict.the-variants.{Spend, Stall, Close, Carry}
-use Rattle.engine.specs.Skim.{relabelOp, stride}
-use Rattle.engine.specs.Calls.{deadlineOf}
-use Rattle.engine.specs.Advance.{stateFrom, strodeFrom}
+use Rattle.parts.specs.declared.live.Live.{Live}
+use Rattle.parts.specs.declared.stages.Reason.{Reason}
+use Rattle.parts.specs.declared.stages.Reason.the-variants.{Out, Late, Outside, Unreadable, Failed, Rest}
+use Rattle.parts.specs.declared.stages.Change.{Change}
+use Rattle.parts.specs.declared.stages.Change.the-variants.{Pass, SetLabel, Goto, Enter, OpenUpcall, OpenGate, CloseGate, Stop}
+use Rattle.parts.specs.declared.stages.Decision.{Decision}
+use Rattle.parts.specs.declared.stages.Decision.the-variants.{Spend, Stall, Close, Carry}
+use Rattle.parts.specs.Calls.{newestOf, nearer}
+use Rattle.parts.specs.Live.{callOf, stacks}
+use Rattle.sprint.specs.declared.Context.{Context}
+use Rattle.sprint.specs.Sprint.{Timing}
+use Rattle.engine.specs.declared.Pace.{Pace}
+use Rattle.engine.specs.declared.Pace.the-variants.{Once, Onward, Stride}
+use Rattle.engine.specs.declared.Task.{Task}
+use Rattle.engine.specs.Advance.{isTimely, paced}
 
--- What the hot loop is told with this newest call.
-abbrev pub contextOf : ℕ → ℕ → Pair → Call → Context
-contextOf size limit pair call =
-    record { size = size; p = pair .pc; t = pair .timing; up = isUpcall call; deadline = deadlineOf (isUpcall call) (endTickOf call) limit }
+-- ---- what is asked for
 
--- What the steps ask: the ranges of the record, and memory that is lent whole.
-pub record InRanges (fixed : Fixed) (control : Control) (lent lentMarks : List ℕ) : Type 0 where
+-- One step.
+abbrev pub isOnce : Pace → Bool
+isOnce Once = true
+isOnce (Onward k) = false
+isOnce Stride = false
+
+-- A stride.
+abbrev pub isStride : Pace → Bool
+isStride Once = false
+isStride (Onward k) = false
+isStride Stride = true
+
+-- The tick by which a step has to finish: the limit, or the nearer one of a run to a tick.
+abbrev pub tickOf : Pace → ℕ → ℕ
+tickOf Once limit = limit
+tickOf (Onward k) limit = nearer k limit
+tickOf Stride limit = limit
+
+-- What the steps ask: the ranges of the record, memory that is lent whole, and calls as a machine stacks them.
+pub record Fit (fixed : Fixed) (control : Control) (words marks : List ℕ) : Type 0 where
   pub size : fixed .size ≤ mostWords
   pub limit : fixed .limit ≤ mostTicks
   pub gates : fixed .count ≤ mostGates
   pub clock : control .clock ≤ fixed .limit
-  pub words : fixed .size ≤ length lent
-  pub marks : fixed .size ≤ length lentMarks
+  pub words-lent : fixed .size ≤ length words
+  pub marks-lent : fixed .size ≤ length marks
+  pub stacked : stacks (control .first) (control .second) ≡ true
+  pub timely : isTimely (control .clock) (newestOf (control .first) (control .second)) ≡ true
 
--- The steps of the model that finish by the tick were done; or where one stride was asked for, and no step is barred, this.
-pub record Driven (fixed : Fixed) (start : Control) (count : ℕ) (once : Bool) (tick : ℕ) (values labels words marks : List ℕ) (r : Halted) (values′ labels′ words′ : List ℕ) : Type 0 where
-  pub all :
-      once ≡ false
-      → stateFrom fixed (r .control) values′ labels′ words′ marks
-      ≡ stepsBy tick count (stateFrom fixed start values labels words marks)
-  pub one :
-      once ≡ true → tick ≡ fixed .limit
-      → strodeFrom fixed r values′ labels′ words′ marks ≡ stride count (stateFrom fixed start values labels words marks)
+-- The steps were done.
+abbrev pub Driven : Fixed → Task → List ℕ → List ℕ → List ℕ → List ℕ → Control → List ℕ → List ℕ → List ℕ → Type 0
+Driven fixed task values labels words marks r values′ labels′ words′ =
+    stateFrom fixed r values′ labels′ words′ marks ≡ paced (task .pace) (stateFrom fixed (task .start) values labels words marks)
+
+-- ---- around the hot loop
+
+-- What the hot loop is told.
+abbrev pub contextOf : ℕ → Live → ℕ → Context
+contextOf size l deadline =
+    record { size = size; pair = l .pair; up = isUpcall (callOf (l .newest)); deadline = deadline }
+
+-- The given deadline; or where the op at the pc, below this size, is a common one the tick at which it finishes, if that is
+-- nearer.
+pub record Alone (deadline size : ℕ) (l : Live) (values turned words : List ℕ) (r : ℕ) : Type 0 where
+  pub near : r ≤ deadline
+  pub later : l .clock ≤ r
+  pub ticks : ℕ
+  pub timing : l .pc < size → Timing (getD words (l .pc) 0) (l .pair .timing) values turned ticks
+  pub which : (r ≡ deadline) ⊎ (r ≡ l .clock + ticks)
+  pub most : l .pc < size → r ≤ l .clock + ticks
+  pub outside : size ≤ l .pc → r ≡ deadline
+
+-- The number of the op that relabels.
+abbrev pub relabelOp : ℕ
+relabelOp = 16
 
 -- The hot loop stopped at a word that relabels.
-abbrev pub relabelsAt : Stop → Bool
+abbrev pub relabelsAt : Reason → Bool
 relabelsAt Out = false
 relabelsAt Late = false
 relabelsAt Outside = false
@@ -57,13 +95,27 @@ relabelsAt Unreadable = false
 relabelsAt Failed = false
 relabelsAt (Rest w) = eqb (opField w) relabelOp
 
--- The steps end where the hot loop paused with so many of n left.
-abbrev pub endsAt : Bool → ℕ → ℕ → Stop → Bool
-endsAt once n left stop = eqb left 0 || once && ltb left n && relabelsAt stop
+-- A change sets a label.
+abbrev pub changesLabel : Change → Bool
+changesLabel Pass = false
+changesLabel (SetLabel a l) = true
+changesLabel (Goto k) = false
+changesLabel (Enter q) = false
+changesLabel (OpenUpcall k q e) = false
+changesLabel (OpenGate k q) = false
+changesLabel CloseGate = false
+changesLabel Stop = false
 
--- The clock that a verdict leaves, from this clock and in a call with the end tick e.
-abbrev pub finishOf : Verdict → ℕ → ℕ → ℕ → ℕ
-finishOf Spend clock limit e = limit
-finishOf (Stall why) clock limit e = clock
-finishOf (Close cause) clock limit e = e + 1
-finishOf (Carry ticks act) clock limit e = clock + ticks
+-- A decision does.
+abbrev pub setsLabel : Decision → Bool
+setsLabel Spend = false
+setsLabel (Stall why) = false
+setsLabel (Close cause) = false
+setsLabel (Carry ticks change) = changesLabel change
+
+-- The clock that a decision leaves under this limit.
+abbrev pub finishOf : Decision → Live → ℕ → ℕ
+finishOf Spend l limit = limit
+finishOf (Stall why) l limit = l .clock
+finishOf (Close cause) l limit = l .newest .end + 1
+finishOf (Carry ticks change) l limit = l .clock + ticks

@@ -31,7 +31,7 @@ use Rattle.model.proofs.WellFormed.{step-control}
 use Rattle.model.proofs.Step.{there, step-write}
 use Rattle.model.proofs.Noninterference.Sight.{same-location, within-down}
 use Rattle.model.proofs.Noninterference.Hidden.{outside-on}
-use Rattle.model.proofs.Noninterference.Visible.{step-label}
+use Rattle.model.proofs.Noninterference.Visible.{step-leaves}
 use Rattle.model.proofs.Relabelling.{Plain, same-label, effectWrite, relabelling}
 
 -- ---- the op that sets a label
@@ -142,7 +142,7 @@ module _ (ℓ : ℕ) (s : State) (r : Ready s) (quiet : attempts ℓ s ≡ false
       go : (a b : Bool) → within ℓ (labelAt s y) ≡ b → (a && not b && within ℓ (labelAt (step s) y)) ≡ false
       go false b o = refl
       go true true o = refl
-      go true false o = ap (within ℓ) (step-label s y) ∙ label-kept refl (step-write s r) y o
+      go true false o = ap (within ℓ) (step-leaves s y .0) ∙ label-kept refl (step-write s r) y o
 
 -- ---- a gate call from outside to within
 

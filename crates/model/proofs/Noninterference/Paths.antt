@@ -169,12 +169,24 @@ lost-steps ℓ (suc j) s r l p =
 
 -- ---- away in an upcall
 
--- After so many steps a machine is still away, or it came back in a state from which it took fewer.
+-- After so many steps a machine came back in a state from which it took fewer.
+record Home (ℓ j : ℕ) (s : State) : Type 0 where
+  left : ℕ
+  state : State
+  fewer : left < j
+  ready : Ready state
+  control : state .control ≡ back (s .control .first) (s .control .second)
+  ended : endTick s < s .fixed .limit
+  fixed : state .fixed ≡ s .fixed
+  alike : Alike (within ℓ) state s
+  same : steps j s ≡ steps left state
+  allowed : Allowed ℓ left state
+  timed : timedFromOutside ℓ state ≡ false
+
+-- After so many steps it is still away, or it came back.
 data Journey (ℓ j : ℕ) (s : State) : Type 0 where
   out : Still ℓ s (steps j s) → Alike (within ℓ) (steps j s) s → Journey ℓ j s
-  home : (m : ℕ) (u : State) → m < j → Ready u → u .control ≡ back (s .control .first) (s .control .second)
-      → endTick s < s .fixed .limit → u .fixed ≡ s .fixed → Alike (within ℓ) u s → steps j s ≡ steps m u → Allowed ℓ m u
-      → timedFromOutside ℓ u ≡ false → Journey ℓ j s
+  home : Home ℓ j s → Journey ℓ j s
 
 -- The end tick goes by the open calls.
 pub end-tick-same : (s t : State) → s .control .first ≡ t .control .first → s .control .second ≡ t .control .second
@@ -187,17 +199,43 @@ onward : (ℓ j : ℕ) (s : State) → Ready s → Still ℓ s (step s) → Alik
 unfolding steps
 onward ℓ j s r w a (out v b) =
     out (record { away = v .away; first = v .first ∙ w .first; second = v .second ∙ w .second }) (alike-trans b a)
-onward ℓ j s r w a (home m u lt q e l f b p v t) =
-    home m u (le-trans lt (le-suc j)) q (e ∙ ap₂ back (w .first) (w .second))
-    (subst₂ (λ (x y : ℕ). x < y) (end-tick-same (step s) s (w .first) (w .second)) (ap (λ (x : Fixed). x .limit) (step-fixed s)) l)
-    (f ∙ step-fixed s) (alike-trans b a) p v t
+onward ℓ j s r w a (home h) =
+    home
+    (record {
+      left = h .left;
+      state = h .state;
+      fewer = le-trans (h .fewer) (le-suc j);
+      ready = h .ready;
+      control = h .control ∙ ap₂ back (w .first) (w .second);
+      ended =
+          subst₂ (λ (x y : ℕ). x < y) (end-tick-same (step s) s (w .first) (w .second))
+          (ap (λ (x : Fixed). x .limit) (step-fixed s)) (h .ended);
+      fixed = h .fixed ∙ step-fixed s;
+      alike = alike-trans (h .alike) a;
+      same = h .same;
+      allowed = h .allowed;
+      timed = h .timed;
+    })
 
 journey-step : (ℓ j : ℕ) (s : State) → Ready s → Away ℓ s → Allowed ℓ (suc j) s → Onward ℓ s (step s)
     → (Away ℓ (step s) → Journey ℓ j (step s)) → Journey ℓ (suc j) s
 unfolding steps
 journey-step ℓ j s r a p (still w) more = onward ℓ j s r w (hidden-step ℓ s r (a .outside)) (more (w .away))
 journey-step ℓ j s r a p (returned e l) more =
-    home j (step s) (le-refl _) (step-ready s r) e l (step-fixed s) (hidden-step ℓ s r (a .outside)) refl (p .1) (p .0 .timing)
+    home
+    (record {
+      left = j;
+      state = step s;
+      fewer = le-refl _;
+      ready = step-ready s r;
+      control = e;
+      ended = l;
+      fixed = step-fixed s;
+      alike = hidden-step ℓ s r (a .outside);
+      same = refl;
+      allowed = p .1;
+      timed = p .0 .timing;
+    })
 
 -- So many steps of a machine that is away.
 journey : (ℓ j : ℕ) (s : State) → Ready s → Away ℓ s → Allowed ℓ j s → Journey ℓ j s
@@ -307,15 +345,15 @@ module _ (ℓ k : ℕ) where
       (stand ℓ (step s) (step t) (visible-control ℓ s t e p m (b .setting) (b .alike)) (x .0 .timing)) (x .1) (y .1) c d
 
   -- One machine can't be still away where the other is back.
-  half-back : (j i m : ℕ) (s t u : State) → Ready s → Ready u → s .fixed .limit ≡ t .fixed .limit
+  half-back : (j i : ℕ) (s t : State) → Ready s → s .fixed .limit ≡ t .fixed .limit
       → s .control .first ≡ t .control .first → s .control .second ≡ t .control .second → Still ℓ s (steps j s)
-      → u .control ≡ back (t .control .first) (t .control .second) → endTick t < t .fixed .limit → steps i t ≡ steps m u
-      → Rests k (steps j s) → Rests k (steps i t) → ⊥
-  half-back j i m s t u r q e f g x c l h p y =
+      → Home ℓ i t → Rests k (steps j s) → Rests k (steps i t) → ⊥
+  half-back j i s t r e f g x h p y =
       not-alone ℓ k (endTick t) (t .fixed .limit) (steps j s) (steps-ready j s r) (x .away) p
       (end-tick-same (steps j s) s (x .first) (x .second) ∙ end-tick-same s t f g)
-      (ap (λ (z : Fixed). z .limit) (steps-leave j s r .fixed) ∙ e) l
-      (le-trans (back-clock t u c) (le-trans (clock-on m u q) (subst (λ (z : State). z .control .clock ≤ k) h (y .clock))))
+      (ap (λ (z : Fixed). z .limit) (steps-leave j s r .fixed) ∙ e) (h .ended)
+      (le-trans (back-clock t (h .state) (h .control))
+      (le-trans (clock-on (h .left) (h .state) (h .ready)) (subst (λ (z : State). z .control .clock ≤ k) (h .same) (y .clock))))
 
   -- Away: both still are, or both are back.
   gone-on : (j i : ℕ) (s t : State) → Both ℓ s t → s .control .first ≡ t .control .first → s .control .second ≡ t .control .second
@@ -326,20 +364,21 @@ module _ (ℓ k : ℕ) where
         locations = alike-trans a (alike-trans (b .alike) (alike-sym c)) .seen;
         control = no-control ℓ (steps j s) (steps i t) (x .away .outside) (y .away .outside);
       }
-  gone-on j i s t b f g (out x a) (home m u lt r e l w c h v z) p q more =
-      absurd (half-back j i m s t u (b .one) r (b .setting .limit) f g x e l h p q)
-  gone-on j i s t b f g (home m u lt r e l w c h v z) (out x a) p q more =
-      absurd (half-back i j m t s u (b .two) r (sym (b .setting .limit)) (sym f) (sym g) x e l h q p)
-  gone-on j i s t b f g (home m u lt r e l w c h v z) (home m′ u′ lt′ r′ e′ l′ w′ c′ h′ v′ z′) p q more =
-      rw (h, h′)
-      (more m m′ lt u u′
+  gone-on j i s t b f g (out x a) (home h) p q more =
+      absurd (half-back j i s t (b .one) (b .setting .limit) f g x h p q)
+  gone-on j i s t b f g (home h) (out x a) p q more =
+      absurd (half-back i j t s (b .two) (sym (b .setting .limit)) (sym f) (sym g) x h q p)
+  gone-on j i s t b f g (home h) (home l) p q more =
+      rw (h .same, l .same)
+      (more (h .left) (l .left) (h .fewer) (h .state) (l .state)
       (record {
-        one = r;
-        two = r′;
-        setting = setting-on u u′ (b .setting) w w′;
-        alike = alike-trans c (alike-trans (b .alike) (alike-sym c′));
+        one = h .ready;
+        two = l .ready;
+        setting = setting-on (h .state) (l .state) (b .setting) (h .fixed) (l .fixed);
+        alike = alike-trans (h .alike) (alike-trans (b .alike) (alike-sym (l .alike)));
       })
-      (stand ℓ u u′ (e ∙ ap₂ back f g ∙ sym e′) z) v v′ (subst (Rests k) h p) (subst (Rests k) h′ q))
+      (stand ℓ (h .state) (l .state) (h .control ∙ ap₂ back f g ∙ sym (l .control)) (h .timed)) (h .allowed) (l .allowed)
+      (subst (Rests k) (h .same) p) (subst (Rests k) (l .same) q))
 
   -- However they stand.
   stand-on : (j i : ℕ) (s t : State) → Both ℓ s t → Stand ℓ s t → Allowed ℓ j s → Allowed ℓ i t → Rests k (steps j s)

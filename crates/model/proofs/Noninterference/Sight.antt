@@ -155,7 +155,7 @@ other-label sees s x y l t e =
 own-value : (s : State) (x y : Location) (v : ℕ) → There s x → same x y ≡ true → valueAt (written s (value x v)) y ≡ v
 own-value s x y v t e = value-after-value s x y v t ∙ ap (λ (b : Bool). cond b v (valueAt s y)) e
 
-own-label : (s : State) (x y : Location) (l : ℕ) → There s x → same x y ≡ true → labelAt (written s (label x l)) y ≡ l
+pub own-label : (s : State) (x y : Location) (l : ℕ) → There s x → same x y ≡ true → labelAt (written s (label x l)) y ≡ l
 own-label s x y l t e = label-after-label s x y l t ∙ ap (λ (b : Bool). cond b l (labelAt s y)) e
 
 -- A hidden write shows nothing, at any location.

@@ -24,13 +24,13 @@ use Rattle.model.specs.Seen.{within, exists}
 use Rattle.model.specs.Noninterference.{SameSetting, StepProvisos, downgrades}
 use Rattle.model.proofs.Division.{division-ticks}
 use Rattle.model.proofs.Truth.{either, clash, and-iff, same-choice}
-use Rattle.model.proofs.Writes.{same, label-after-label}
+use Rattle.model.proofs.Writes.{same}
 use Rattle.model.proofs.Ready.{Ready}
 use Rattle.model.proofs.Legal.{Inside, LegalWrite, keeps, sets, marks}
 use Rattle.model.proofs.WellFormed.{step-control}
 use Rattle.model.proofs.Step.{there, step-write}
 use Rattle.model.proofs.Noninterference.Sight as sight
-use Rattle.model.proofs.Noninterference.Sight.{Alike, alike-sym, alike-trans, inside-exists, seen-equal, DownSet, within-down, flows-equal, flows-alike, Visible, Hidden, Fits, hidden-write, visible-write}
+use Rattle.model.proofs.Noninterference.Sight.{Alike, alike-sym, alike-trans, inside-exists, seen-equal, DownSet, within-down, flows-equal, flows-alike, Visible, Hidden, Fits, own-label, hidden-write, visible-write}
 use Rattle.model.proofs.Noninterference.Hidden.{legal-fits, step-written}
 
 -- ---- registers that a word names
@@ -455,27 +455,13 @@ module _ {sees : ℕ → Bool} {c : Control} {a b : State} (h : Together sees c 
 
 -- ---- the step
 
--- A state's labels do not go by its control.
-label-control : (s : State) (c : Control) (x : Location) → labelAt (withControl s c) x ≡ labelAt s x
-unfolding labelAt
-label-control s c (register k) = refl
-label-control s c (word k) = refl
-
--- The labels after a step are those after its write.
-pub step-label : (s : State) (x : Location) → labelAt (step s) x ≡ labelAt (written s (writeOf s (decide s))) x
-unfolding step apply
-step-label s x = label-control (written s (writeOf s (decide s))) (controlAfter s (decide s)) x
-
--- A state's values do not go by its control either.
-value-control : (s : State) (c : Control) (x : Location) → valueAt (withControl s c) x ≡ valueAt s x
-unfolding valueAt
-value-control s c (register k) = refl
-value-control s c (word k) = refl
-
--- The values after a step are those after its write.
-pub step-value : (s : State) (x : Location) → valueAt (step s) x ≡ valueAt (written s (writeOf s (decide s))) x
-unfolding step apply
-step-value s x = value-control (written s (writeOf s (decide s))) (controlAfter s (decide s)) x
+-- Labels and values after a step are those after its write: neither goes by the control.
+pub step-leaves : (s : State) (x : Location)
+    → (labelAt (step s) x ≡ labelAt (written s (writeOf s (decide s))) x)
+    × (valueAt (step s) x ≡ valueAt (written s (writeOf s (decide s))) x)
+unfolding step apply labelAt valueAt
+step-leaves s (register k) = (refl, refl)
+step-leaves s (word k) = (refl, refl)
 
 -- A location is one with itself.
 same-self : (x : Location) → same x x ≡ true
@@ -485,8 +471,7 @@ same-self (word k) = eq-eqb k k refl
 -- A label that is set stands there after the step.
 pub label-set : (s : State) (x : Location) (l : ℕ) → Ready s → Inside s x → writeOf s (decide s) ≡ label x l → labelAt (step s) x ≡ l
 label-set s x l r i e =
-    step-label s x ∙ ap (λ (w : Write). labelAt (written s w) x) e ∙ label-after-label s x x l (there s r x i)
-    ∙ ap (λ (b : Bool). cond b l (labelAt s x)) (same-self x)
+    step-leaves s x .0 ∙ ap (λ (w : Write). labelAt (written s w) x) e ∙ own-label s x x l (there s r x i) (same-self x)
 
 -- A label that is set where no downgrade is made: set outside where the old one was.
 no-downgrade : (ℓ : ℕ) (s : State) (x : Location) (l : ℕ) → Ready s → Inside s x → writeOf s (decide s) ≡ label x l

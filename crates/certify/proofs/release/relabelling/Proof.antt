@@ -3,6 +3,7 @@
 use borrow.Author.Tests.{lt-ltb, le-ltb, eq-eqb, ne-eqb}
 use borrow.Author.Needs.{needs}
 use Rattle.certify.specs.Inner.Release.{relabellingAt}
+use Rattle.certify.proofs.Attempt.{relabels-with}
 use Rattle.certify.proofs.release.relabelling.Statement.{statement}
 use Rattle.certify.proofs.release.relabelling.Tie as tie
 
@@ -26,11 +27,11 @@ op-of-requires c κs = search needs
 
 returns : tie.Need-returns
 unfolding relabellingAt
-returns c = rw (lt-ltb _ _ (c .before .before .before .before .before .before .before .if1 .taken), ← c .before .before .before .before .before .before .index .ensures, ← c .before .before .before .before .flows-to .ensures, c .before .before .before .if2 .taken, ← c .before .op-of .ensures, eq-eqb _ _ (c .if3 .taken))
+returns c = rw (lt-ltb _ _ (c .before .before .before .before .before .before .before .if1 .taken), ← c .before .before .before .before .before .before .index .ensures, ← c .before .before .before .before .flows-to .ensures, c .before .before .before .if2 .taken, relabels-with _ (c .before .op-of .ensures) (eq-eqb _ _ (c .if3 .taken)))
 
 returns-2 : tie.Need-returns-2
 unfolding relabellingAt
-returns-2 c = rw (lt-ltb _ _ (c .before .before .before .before .before .before .before .if1 .taken), ← c .before .before .before .before .before .before .index .ensures, ← c .before .before .before .before .flows-to .ensures, c .before .before .before .if2 .taken, ← c .before .op-of .ensures, ne-eqb _ _ (c .if3 .left))
+returns-2 c = rw (lt-ltb _ _ (c .before .before .before .before .before .before .before .if1 .taken), ← c .before .before .before .before .before .before .index .ensures, ← c .before .before .before .before .flows-to .ensures, c .before .before .before .if2 .taken, relabels-with _ (c .before .op-of .ensures) (ne-eqb _ _ (c .if3 .left)))
 
 returns-3 : tie.Need-returns-3
 unfolding relabellingAt

@@ -54,7 +54,7 @@ returns-2 c =
     let fit = tested .before .before .before .before in
     let start = fit .before .before .before .before in
     rw (c .refused .ensures)
-    (answered-short (start .args .request) (start .args .self) (start .args .words .now) (start .args .labels .now) (well-formed fit)
+    (answered-short (start .args .request) (start .args .self) (start .args .words .now) (start .args .marks .now) (well-formed fit)
     (sym (tested .is-lent-whole .ensures) ∙ c .before .if2 .left))
 
 refused-requires-2 : tie.Need-refused-requires-2
@@ -65,7 +65,7 @@ returns-3 c =
     let tested = c .before .before in
     let start = tested .before .before .before in
     rw (c .refused2 .ensures)
-    (answered-ill (start .args .request) (start .args .self) (start .args .words .now) (start .args .labels .now)
+    (answered-ill (start .args .request) (start .args .self) (start .args .words .now) (start .args .marks .now)
     (sym (tested .is-well-formed .ensures) ∙ c .before .if1 .left))
 
 pub answer-spec : {M : Type 1} → statement M

@@ -1,0 +1,5 @@
+-- Laws that the functions' proofs cite.
+pub mod Unknown
+pub mod Calling
+pub mod Deciding
+pub mod Limiting

@@ -1,0 +1,202 @@
+-- `decisions::calls::upcall` meets its contract.
+-- Assumes nothing.
+use mathlib.Core.Path.{sym, _∙_}
+use native.Mathlib.Omega.{arith}
+use borrow.Author.Needs.{needs}
+use Rattle.model.specs.Ops.{table, mayUpcall, newPairAllowed}
+use Rattle.model.specs.Record.{valueAt, labelAt}
+use Rattle.decisions.proofs.Calling.{in-upcall, pair-below}
+use Rattle.decisions.proofs.calls.upcall.Statement.{statement}
+use Rattle.decisions.proofs.calls.upcall.Tie as tie
+
+a-of-requires : tie.Need-a-of-requires
+a-of-requires c κs = search needs
+
+b-of-requires : tie.Need-b-of-requires
+b-of-requires c κs = search needs
+
+c-of-requires : tie.Need-c-of-requires
+c-of-requires c κs = search needs
+
+d-of-requires : tie.Need-d-of-requires
+d-of-requires c κs = search needs
+
+mul-rb : tie.Need-mul-rb
+mul-rb c = search needs
+
+element-copy-out-rb : tie.Need-element-copy-out-rb
+element-copy-out-rb c = search needs
+
+mul-rc : tie.Need-mul-rc
+mul-rc c = search needs
+
+element-copy-out-rc : tie.Need-element-copy-out-rc
+element-copy-out-rc c = search needs
+
+is-upcall-requires : tie.Need-is-upcall-requires
+is-upcall-requires c κs = search needs
+
+returns : tie.Need-returns
+unfolding table mayUpcall newPairAllowed valueAt labelAt
+returns c fixed =
+    record { is = λ h words marks. rw (in-upcall h, sym (c .before .is-upcall .ensures) ∙ c .if1 .taken); fits = λ p. p }
+
+element-copy-out-new-pair-allowed : tie.Need-element-copy-out-new-pair-allowed
+element-copy-out-new-pair-allowed c = search needs
+
+element-copy-out-new-pair-allowed-2 : tie.Need-element-copy-out-new-pair-allowed-2
+element-copy-out-new-pair-allowed-2 c = search needs
+
+new-pair-allowed-requires : tie.Need-new-pair-allowed-requires
+new-pair-allowed-requires c κs = search needs
+
+label-of-requires : tie.Need-label-of-requires
+label-of-requires c κs = pair-below _ _ _ _ _ (c .before .new-pair-allowed .ensures) (c .if2 .taken) .0
+
+label-of-requires-2 : tie.Need-label-of-requires-2
+label-of-requires-2 c κs = pair-below _ _ _ _ _ (c .before .before .new-pair-allowed .ensures) (c .before .if2 .taken) .1
+
+element-copy-out-may-upcall : tie.Need-element-copy-out-may-upcall
+element-copy-out-may-upcall c = search needs
+
+element-copy-out-may-upcall-2 : tie.Need-element-copy-out-may-upcall-2
+element-copy-out-may-upcall-2 c = search needs
+
+may-upcall-requires : tie.Need-may-upcall-requires
+may-upcall-requires c κs = search needs
+
+cast-end : tie.Need-cast-end
+cast-end c = search needs
+
+add-end : tie.Need-add-end
+add-end c = search needs
+
+mul-wide : tie.Need-mul-wide
+mul-wide c = search needs
+
+element-copy-out-wide : tie.Need-element-copy-out-wide
+element-copy-out-wide c = search needs
+
+wide-requires : tie.Need-wide-requires
+wide-requires c κs = search needs
+
+add-end-2 : tie.Need-add-end-2
+add-end-2 c = search needs
+
+mul-t39 : tie.Need-mul-t39
+mul-t39 c = search needs
+
+element-copy-out-t42 : tie.Need-element-copy-out-t42
+element-copy-out-t42 c = search needs
+
+returns-2 : tie.Need-returns-2
+unfolding table mayUpcall newPairAllowed valueAt labelAt
+returns-2 c fixed =
+    let tried = c .before .before .before .before .before in
+    let at = tried .before .before .before .before .before in
+    let new = at .before in
+    let out = new .before .before .before in
+    let fields = out .before .before .before .before in
+    let no-upcall = sym (out .before .is-upcall .ensures) ∙ out .if1 .left in
+    record {
+      is =
+          λ h words marks.
+          rw (
+            in-upcall h,
+            no-upcall,
+            ← fields .before .before .before .a-of .ensures .0,
+            ← fields .before .before .b-of .ensures .0,
+            ← fields .before .c-of .ensures .0,
+            ← fields .d-of .ensures .0,
+            ← new .new-pair-allowed .ensures,
+            at .if2 .taken,
+            ← tried .before .before .before .before .label-of .ensures,
+            ← tried .before .before .before .label-of2 .ensures,
+            ← tried .may-upcall .ensures,
+            c .before .before .before .before .if3 .taken,
+            c .before .wide .ensures .0,
+          );
+      fits = λ p. (p, no-upcall, omega arith);
+    }
+
+returns-3 : tie.Need-returns-3
+unfolding table mayUpcall newPairAllowed valueAt labelAt
+returns-3 c fixed =
+    let tried = c .before in
+    let at = tried .before .before .before .before .before in
+    let new = at .before in
+    let out = new .before .before .before in
+    let fields = out .before .before .before .before in
+    let no-upcall = sym (out .before .is-upcall .ensures) ∙ out .if1 .left in
+    record {
+      is =
+          λ h words marks.
+          rw (
+            in-upcall h,
+            no-upcall,
+            ← fields .before .before .before .a-of .ensures .0,
+            ← fields .before .before .b-of .ensures .0,
+            ← fields .before .c-of .ensures .0,
+            ← fields .d-of .ensures .0,
+            ← new .new-pair-allowed .ensures,
+            at .if2 .taken,
+            ← tried .before .before .before .before .label-of .ensures,
+            ← tried .before .before .before .label-of2 .ensures,
+            ← tried .may-upcall .ensures,
+            c .if3 .left,
+          );
+      fits = λ p. p;
+    }
+
+returns-4 : tie.Need-returns-4
+unfolding table mayUpcall newPairAllowed valueAt labelAt
+returns-4 c fixed =
+    let out = c .before .before .before .before in
+    let fields = out .before .before .before .before in
+    record {
+      is =
+          λ h words marks.
+          rw (
+            in-upcall h,
+            sym (out .before .is-upcall .ensures) ∙ out .if1 .left,
+            ← fields .before .before .b-of .ensures .0,
+            ← fields .before .c-of .ensures .0,
+            ← c .before .new-pair-allowed .ensures,
+            c .if2 .left,
+          );
+      fits = λ p. p;
+    }
+
+pub upcall-spec : {M : Type 1} → statement M
+upcall-spec =
+    tie.close
+    (tie.spec
+    a-of-requires
+    b-of-requires
+    c-of-requires
+    d-of-requires
+    mul-rb
+    element-copy-out-rb
+    mul-rc
+    element-copy-out-rc
+    is-upcall-requires
+    returns
+    element-copy-out-new-pair-allowed
+    element-copy-out-new-pair-allowed-2
+    new-pair-allowed-requires
+    label-of-requires
+    label-of-requires-2
+    element-copy-out-may-upcall
+    element-copy-out-may-upcall-2
+    may-upcall-requires
+    cast-end
+    add-end
+    mul-wide
+    element-copy-out-wide
+    wide-requires
+    add-end-2
+    mul-t39
+    element-copy-out-t42
+    returns-2
+    returns-3
+    returns-4)

@@ -1,0 +1,107 @@
+-- `decisions::rows::set_label` meets its contract.
+-- Assumes nothing.
+use borrow.Author.Needs.{needs}
+use Rattle.model.specs.Ops.{writable, table}
+use Rattle.model.specs.Record.{valueAt, labelAt}
+use Rattle.decisions.proofs.Calling.{label-below}
+use Rattle.decisions.proofs.rows.set_label.Statement.{statement}
+use Rattle.decisions.proofs.rows.set_label.Tie as tie
+
+a-of-requires : tie.Need-a-of-requires
+a-of-requires c κs = search needs
+
+b-of-requires : tie.Need-b-of-requires
+b-of-requires c κs = search needs
+
+mul-rb : tie.Need-mul-rb
+mul-rb c = search needs
+
+element-copy-out-rb : tie.Need-element-copy-out-rb
+element-copy-out-rb c = search needs
+
+element-copy-out-may-become : tie.Need-element-copy-out-may-become
+element-copy-out-may-become c = search needs
+
+may-become-requires : tie.Need-may-become-requires
+may-become-requires c κs = search needs
+
+element-copy-out-t21 : tie.Need-element-copy-out-t21
+element-copy-out-t21 c = search needs
+
+flows-to-requires : tie.Need-flows-to-requires
+flows-to-requires c κs = search needs
+
+label-of-requires : tie.Need-label-of-requires
+label-of-requires c κs = label-below _ _ (c .before .before .before .before .may-become .ensures) (c .before .before .before .if1 .taken)
+
+returns : tie.Need-returns
+unfolding table writable valueAt labelAt
+returns c fixed =
+    let at = c .before .before .before .before in
+    let fields = at .before .before .before .before in
+    record {
+      is =
+          λ h words marks.
+          rw (
+            ← fields .before .a-of .ensures .0,
+            ← fields .b-of .ensures .0,
+            ← at .before .may-become .ensures,
+            at .if1 .taken,
+            ← c .before .before .flows-to .ensures,
+            c .before .if2 .taken,
+            c .label-of .ensures,
+          );
+      fits = λ p. (fields .before .a-of .ensures .1, p);
+    }
+
+returns-2 : tie.Need-returns-2
+unfolding table writable valueAt labelAt
+returns-2 c fixed =
+    let at = c .before .before .before in
+    let fields = at .before .before .before .before in
+    record {
+      is =
+          λ h words marks.
+          rw (
+            ← fields .before .a-of .ensures .0,
+            ← fields .b-of .ensures .0,
+            ← at .before .may-become .ensures,
+            at .if1 .taken,
+            ← c .before .flows-to .ensures,
+            c .if2 .left,
+          );
+      fits = λ p. p;
+    }
+
+returns-3 : tie.Need-returns-3
+unfolding table writable valueAt labelAt
+returns-3 c fixed =
+    let fields = c .before .before .before .before in
+    record {
+      is =
+          λ h words marks.
+          rw (
+            ← fields .before .a-of .ensures .0,
+            ← fields .b-of .ensures .0,
+            ← c .before .may-become .ensures,
+            c .if1 .left,
+          );
+      fits = λ p. p;
+    }
+
+pub set-label-spec : {M : Type 1} → statement M
+set-label-spec =
+    tie.close
+    (tie.spec
+    a-of-requires
+    b-of-requires
+    mul-rb
+    element-copy-out-rb
+    element-copy-out-may-become
+    may-become-requires
+    element-copy-out-t21
+    flows-to-requires
+    label-of-requires
+    returns
+    returns-2
+    returns-3)

@@ -1,0 +1,12 @@
+use Rattle.parts.proofs.Frames.{upcall-by-kind}
+use Rattle.parts.proofs.live.is_upcall.Statement.{statement}
+use Rattle.parts.proofs.live.is_upcall.Tie as tie
+use Rattle.parts.proofs.live.is_upcall.Reads as reads
+use Rattle.parts.proofs.live.is_upcall.Lts as lts
+
+-- src/live.rt:65:1
+returns : tie.Need-returns
+returns c = upcall-by-kind _
+
+pub is-upcall-spec : {M : Type 1} → statement M
+is-upcall-spec = tie.close (tie.spec returns)

@@ -1,0 +1,75 @@
+-- `sprint::memory::store` meets its contract.
+-- Assumes nothing.
+use borrow.Author.Tests.{lt-ltb, le-ltb}
+use borrow.Author.Needs.{needs}
+use Rattle.sprint.proofs.memory.store.Statement.{statement}
+use Rattle.sprint.proofs.memory.store.Tie as tie
+
+a-of-requires : tie.Need-a-of-requires
+a-of-requires c κs = search needs
+
+b-of-requires : tie.Need-b-of-requires
+b-of-requires c κs = search needs
+
+restrictions-requires : tie.Need-restrictions-requires
+restrictions-requires c κs = search needs
+
+element-copy-out-held : tie.Need-element-copy-out-held
+element-copy-out-held c = search needs
+
+element-copy-out-held-2 : tie.Need-element-copy-out-held-2
+element-copy-out-held-2 c = search needs
+
+mul-put-word : tie.Need-mul-put-word
+mul-put-word c = search needs
+
+element-copy-out-put-word : tie.Need-element-copy-out-put-word
+element-copy-out-put-word c = search needs
+
+mul-put-word-2 : tie.Need-mul-put-word-2
+mul-put-word-2 c = search needs
+
+element-copy-out-put-word-2 : tie.Need-element-copy-out-put-word-2
+element-copy-out-put-word-2 c = search needs
+
+put-word-requires : tie.Need-put-word-requires
+put-word-requires c κs = search needs
+
+add-going : tie.Need-add-going
+add-going c = search needs
+
+going-requires : tie.Need-going-requires
+going-requires c κs = search needs
+
+same-length : tie.Need-same-length
+same-length c = search needs
+
+returns : tie.Need-returns
+returns c = record { turn = rw (lt-ltb _ _ (c .before .before .before .before .before .before .before .before .before .before .before .if1 .taken)) (c .going .ensures); words = rw (← c .before .before .before .before .before .before .before .before .before .before .before .before .before .before .a-of .ensures .0, ← c .before .before .before .before .before .before .before .before .before .before .before .before .before .b-of .ensures .0, lt-ltb _ _ (c .before .before .before .before .before .before .before .before .before .before .before .if1 .taken), ← c .before .before .before .before .before .before .before .before .before .before .restrictions .ensures) (c .before .before .before .before .put-word .ensures) }
+
+stopping-requires : tie.Need-stopping-requires
+stopping-requires c κs = search needs
+
+returns-2 : tie.Need-returns-2
+returns-2 c = record { turn = rw (le-ltb _ _ (c .before .if1 .left)) (c .stopping .ensures); words = rw (le-ltb _ _ (c .before .if1 .left)) }
+
+pub store-spec : {M : Type 1} → statement M
+store-spec =
+    tie.close
+    (tie.spec
+    a-of-requires
+    b-of-requires
+    restrictions-requires
+    element-copy-out-held
+    element-copy-out-held-2
+    mul-put-word
+    element-copy-out-put-word
+    mul-put-word-2
+    element-copy-out-put-word-2
+    put-word-requires
+    add-going
+    going-requires
+    same-length
+    returns
+    stopping-requires
+    returns-2)

@@ -1,0 +1,42 @@
+-- `sprint::ops::assign` meets its contract.
+-- Assumes nothing.
+use mathlib.Core.Logic.{⊎-elim}
+use borrow.Author.Tests.{lt-ltb, le-ltb}
+use borrow.Author.Needs.{needs}
+use Rattle.model.specs.Ops.{writable}
+use Rattle.sprint.proofs.ops.assign.Statement.{statement}
+use Rattle.sprint.proofs.ops.assign.Tie as tie
+
+mul-values : tie.Need-mul-values
+mul-values c = search needs
+
+element-write-values : tie.Need-element-write-values
+element-write-values c = search needs
+
+add-going : tie.Need-add-going
+add-going c = search needs
+
+going-requires : tie.Need-going-requires
+going-requires c κs = search needs
+
+returns : tie.Need-returns
+unfolding writable
+returns c = record { turn = rw (lt-ltb _ _ (c .before .before .before .if1 .taken)) (c .going .ensures); values = rw (lt-ltb _ _ (c .before .before .before .if1 .taken)) (⊎-elim (λ h. rw (h .0 .taken) (h .1)) (λ h. rw (h .0 .left) (h .1)) (c .before .before .if2 .came)) }
+
+stopping-requires : tie.Need-stopping-requires
+stopping-requires c κs = search needs
+
+returns-2 : tie.Need-returns-2
+returns-2 c = record { turn = rw (le-ltb _ _ (c .before .if1 .left)) (c .stopping .ensures); values = rw (le-ltb _ _ (c .before .if1 .left)) }
+
+pub assign-spec : {M : Type 1} → statement M
+assign-spec =
+    tie.close
+    (tie.spec
+    mul-values
+    element-write-values
+    add-going
+    going-requires
+    returns
+    stopping-requires
+    returns-2)

@@ -1,0 +1,87 @@
+-- `sprint::ops::combine` meets its contract.
+-- Assumes nothing.
+use borrow.Author.Needs.{needs}
+use Rattle.sprint.proofs.Turning.{assigned-if}
+use Rattle.sprint.proofs.ops.combine.Statement.{statement}
+use Rattle.sprint.proofs.ops.combine.Tie as tie
+
+a-of-requires : tie.Need-a-of-requires
+a-of-requires c κs = search needs
+
+b-of-requires : tie.Need-b-of-requires
+b-of-requires c κs = search needs
+
+c-of-requires : tie.Need-c-of-requires
+c-of-requires c κs = search needs
+
+mul-rc : tie.Need-mul-rc
+mul-rc c = search needs
+
+element-copy-out-rc : tie.Need-element-copy-out-rc
+element-copy-out-rc c = search needs
+
+element-copy-out-both : tie.Need-element-copy-out-both
+element-copy-out-both c = search needs
+
+element-copy-out-both-2 : tie.Need-element-copy-out-both-2
+element-copy-out-both-2 c = search needs
+
+lacking-requires : tie.Need-lacking-requires
+lacking-requires c κs = search needs
+
+may-go-requires : tie.Need-may-go-requires
+may-go-requires c κs = search needs
+
+restrictions-requires : tie.Need-restrictions-requires
+restrictions-requires c κs = search needs
+
+add-may-go : tie.Need-add-may-go
+add-may-go c = search needs
+
+element-copy-out-may-go : tie.Need-element-copy-out-may-go
+element-copy-out-may-go c = search needs
+
+may-go-requires-2 : tie.Need-may-go-requires-2
+may-go-requires-2 c κs = search needs
+
+mul-computed : tie.Need-mul-computed
+mul-computed c = search needs
+
+element-copy-out-computed : tie.Need-element-copy-out-computed
+element-copy-out-computed c = search needs
+
+computed-requires : tie.Need-computed-requires
+computed-requires c κs = search needs
+
+ticks-of-requires : tie.Need-ticks-of-requires
+ticks-of-requires c κs = search needs
+
+assign-requires : tie.Need-assign-requires
+assign-requires c κs = search needs
+
+returns : tie.Need-returns
+returns c = rw (← c .before .before .before .before .before .before .before .before .before .before .before .before .before .before .before .a-of .ensures .0, ← c .before .before .before .before .before .before .before .before .before .before .before .before .before .before .b-of .ensures .0, ← c .before .before .before .before .before .before .before .before .before .before .before .before .before .c-of .ensures .0, ← c .before .before .before .before .before .before .before .restrictions .ensures, ← c .before .before .before .before .before .before .before .before .before .lacking .ensures, ← c .before .before .before .before .before .before .before .before .may-go .ensures, ← c .before .before .before .before .before .may-go2 .ensures, ← c .before .ticks-of .ensures .0) (assigned-if (c .before .before .before .before .before .may-go2 .result) (c .before .before .before .computed .ensures) (c .assign .ensures))
+
+pub combine-spec : {M : Type 1} → statement M
+combine-spec =
+    tie.close
+    (tie.spec
+    a-of-requires
+    b-of-requires
+    c-of-requires
+    mul-rc
+    element-copy-out-rc
+    element-copy-out-both
+    element-copy-out-both-2
+    lacking-requires
+    may-go-requires
+    restrictions-requires
+    add-may-go
+    element-copy-out-may-go
+    may-go-requires-2
+    mul-computed
+    element-copy-out-computed
+    computed-requires
+    ticks-of-requires
+    assign-requires
+    returns)

@@ -1,0 +1,110 @@
+-- The hot loop as it is promised: it did steps of the model, and stopped for a reason.
+-- Assumes nothing.
+use Prim.Native.Nat.{ℕ, _+_, _-_, _≤_, _<_}
+use mathlib.Core.Path.{_≡_}
+use mathlib.Core.Bool.{Bool, true, false}
+use mathlib.Core.List.{List}
+use lib.ListN.{length, getD}
+use Rattle.labels.specs.Label.{labelCount, restrictions, lacking}
+use Rattle.model.specs.Numbers.{registerCount, outsideMemory, unreadable, byFailure}
+use Rattle.model.specs.Record.{State, stateFrom, inUpcall}
+use Rattle.model.specs.Word.{Op, opField, decode}
+use Rattle.model.specs.Ops.{Change, table}
+use Rattle.model.specs.Step.{close, carry, failed, fetched, fetch, known, endTick, attempt, plan}
+use Rattle.parts.specs.declared.stages.Reason.{Reason}
+use Rattle.parts.specs.declared.stages.Reason.the-variants.{Out, Late, Outside, Unreadable, Failed, Rest}
+use Rattle.parts.specs.Calls.{deadlineOf}
+use Rattle.parts.specs.Stages.{isCommonOp, fetchesCommon}
+use Rattle.sprint.specs.declared.Context.{Context}
+use Rattle.sprint.specs.declared.Place.{Place}
+use Rattle.sprint.specs.declared.Pause.{Pause}
+use Rattle.sprint.specs.Skim.{skim}
+
+-- ---- what the loop is told
+
+-- The turned labels are those of the registers: the restrictions of each, and behind them those that each lacks.
+pub record Mirrors (labels turned : List ℕ) : Type 0 where
+  pub held : (i : ℕ) → i < registerCount → getD turned i 0 ≡ restrictions (getD labels i 0)
+  pub lacks : (i : ℕ) → i < registerCount → getD turned (i + registerCount) 0 ≡ lacking (getD labels i 0)
+  pub below : (i : ℕ) → i < registerCount → getD labels i 0 < labelCount
+
+-- The state s with what the loop holds in its place: size, pair, pc, clock, registers and memory. The clock is told by
+-- the ticks that are left to the deadline, the present one counted.
+abbrev pub view : State → Context → ℕ → ℕ → List ℕ → List ℕ → List ℕ → List ℕ → State
+view s context pc left values labels words marks =
+    stateFrom (record { size = context .size; limit = s .fixed .limit; errorpc = s .fixed .errorpc; count = s .fixed .count; gates = s .fixed .gates })
+    (record { pc = pc; pair = context .pair; clock = context .deadline + 1 - left; first = s .control .first; second = s .control .second; end = s .control .end; why = s .control .why })
+    values labels words marks
+
+-- The state runs, an upcall is open or not as the loop is told, and no common op that finishes by its deadline is barred.
+pub record Timed (s : State) (context : Context) : Type 0 where
+  pub running : s .control .end ≡ 0
+  pub upcall : inUpcall (s .control) ≡ context .up
+  pub due : context .deadline ≤ deadlineOf (context .up) (endTick s) (s .fixed .limit)
+
+-- ---- why it stops
+
+-- A common op is tried that would finish past the deadline.
+pub record Overdue (s : State) (deadline : ℕ) : Type 0 where
+  pub word : ℕ
+  pub op : Op
+  pub ticks : ℕ
+  pub change : Change
+  pub fetches : fetch s ≡ fetched word op
+  pub common : isCommonOp op ≡ true
+  pub tries : attempt s (table s word op) ≡ carry ticks change
+  pub long : table s word op .ticks ≡ ticks
+  pub some : 0 < ticks
+  pub past : deadline < s .control .clock + ticks
+
+-- The word w is fetched, and its op is no common one.
+pub record Uncommon (s : State) (w : ℕ) : Type 0 where
+  pub word : fetch s ≡ known w (decode (opField w))
+  pub within : s .control .pc < s .fixed .size
+  pub op : fetchesCommon (known w (decode (opField w))) ≡ false
+
+-- What each reason to stop says of the state.
+abbrev pub Stopped : Reason → ℕ → State → Type 0
+Stopped Out deadline s = ⊥
+Stopped Late deadline s = Overdue s deadline
+Stopped Outside deadline s = fetch s ≡ failed outsideMemory
+Stopped Unreadable deadline s = fetch s ≡ failed unreadable
+Stopped Failed deadline s = (plan s (fetch s) ≡ close byFailure) × (fetchesCommon (fetch s) ≡ true) × (inUpcall (s .control) ≡ true)
+Stopped (Rest w) deadline s = Uncommon s w
+
+-- Why the loop paused with so many ticks left: none is left, or a reason to stop.
+abbrev pub Paused : Reason → ℕ → ℕ → State → Type 0
+Paused Out left deadline s = left ≡ 0
+Paused Late left deadline s = Stopped Late deadline s
+Paused Outside left deadline s = Stopped Outside deadline s
+Paused Unreadable left deadline s = Stopped Unreadable deadline s
+Paused Failed left deadline s = Stopped Failed deadline s
+Paused (Rest w) left deadline s = Stopped (Rest w) deadline s
+
+-- ---- what it promises
+
+-- From one state to another by so many common ops, each of which took a tick or more, and why no further.
+pub record Ran (before after : State) (deadline left left′ : ℕ) (reason : Reason) : Type 0 where
+  pub count : ℕ
+  pub skims : skim count before ≡ record { state = after; left = 0 }
+  pub took : left′ + count ≤ left
+  pub still : count ≡ 0 → left′ ≡ left
+  pub some : 0 < left → 0 < left′
+  pub paused : Paused reason left′ deadline after
+
+-- From a place, registers and memory the loop went to r's and these, whatever the rest of the state, where memory is lent
+-- whole and it was told the truth.
+pub record Sprinted (context : Context) (start : Place) (values turned words marks : List ℕ) (r : Pause) (values′ words′ : List ℕ) : Type 0 where
+  pub ran :
+      context .size ≤ length words → context .size ≤ length marks → start .left ≤ context .deadline + 1
+      → (s : State) (labels : List ℕ) → Mirrors labels turned
+      → Timed (view s context (start .pc) (start .left) values labels words marks) context
+      → Ran (view s context (start .pc) (start .left) values labels words marks)
+      (view s context (r .place .pc) (r .place .left) values′ labels words′ marks) (context .deadline) (start .left) (r .place .left) (r .reason)
+
+-- The ticks of the common op in the word w, in every state with this timing label and these registers.
+pub record Timing (w t : ℕ) (values turned : List ℕ) (r : ℕ) : Type 0 where
+  pub is :
+      (s : State) (op : Op) → s .control .pair .timing ≡ t → s .registers .values ≡ values → Mirrors (s .registers .labels) turned
+      → known w (decode (opField w)) ≡ fetched w op → isCommonOp op ≡ true → r ≡ table s w op .ticks
+  pub few : r ≤ 34
