@@ -1,5 +1,6 @@
 // The arguments that a program is started with, as numbers and labels. Which word an argument is lies outside of any
 // promise; what is promised is that some word says what is answered.
+use labels::Bits;
 use labels::LABEL_COUNT;
 use model::format::Number;
 use reader::read_alone;
@@ -11,7 +12,7 @@ ghost use Rattle.arguments.specs.Written.{labelAlone};
 
 // A label, or none.
 pub enum Named {
-    Label(u8),
+    Label(Bits),
     Nothing,
 }
 
@@ -35,7 +36,7 @@ pub fn label_argument(k: usize) -> Named
         return Named::Nothing;
     };
     if value < LABEL_COUNT as u64 {
-        return Named::Label(value as u8);
+        return Named::Label(value as Bits);
     }
     Named::Nothing
 }

@@ -55,7 +55,7 @@ fn line_of(count: usize, buf: &[u8]) -> Line
 {
     if count < buf.len() {
         return Line {
-            count: count,
+            count,
             ending: Ending::Whole,
         };
     }

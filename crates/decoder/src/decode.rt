@@ -1,6 +1,7 @@
 // A record from words: each word is cut to what its field can hold.
 use encoder::places;
 use encoder::places::MOST_GATES;
+use labels::Bits;
 use machine::Machine;
 use model::Call;
 use model::CallGate;
@@ -151,10 +152,10 @@ fn values_in(buffer: &[u64]) -> [u32; REGISTER_COUNT]
 }
 
 // The register labels.
-fn labels_in(buffer: &[u64]) -> [u8; REGISTER_COUNT]
+fn labels_in(buffer: &[u64]) -> [Bits; REGISTER_COUNT]
     ensures { λ r. ⌜ r ≡ registersIn (now (buffer .entry)) .labels ⌝ }
 {
-    let mut labels = [0u8; REGISTER_COUNT];
+    let mut labels: [Bits; REGISTER_COUNT] = [0; REGISTER_COUNT];
     let mut k = 0;
     while k < REGISTER_COUNT {
         labels[k] = low8(word(buffer, places::FIRST_LABEL + k));

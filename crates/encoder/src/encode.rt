@@ -1,6 +1,7 @@
 // A record's words, put into a buffer: what lies behind the buffer's end is not written.
 use crate::places;
 use crate::places::MOST_GATES;
+use labels::Bits;
 use machine::Machine;
 use model::Call;
 use model::CallGate;
@@ -126,7 +127,7 @@ fn put_values(values: [u32; REGISTER_COUNT], buffer: &mut [u64])
 }
 
 // Puts the register labels.
-fn put_labels(labels: [u8; REGISTER_COUNT], buffer: &mut [u64])
+fn put_labels(labels: [Bits; REGISTER_COUNT], buffer: &mut [u64])
     ensures { λ r. ⌜ now (buffer .exit) ≡ sets (now (buffer .entry)) firstLabel labels ⌝ }
 {
     let mut k = 0;

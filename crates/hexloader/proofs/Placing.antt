@@ -1,6 +1,6 @@
 -- Words placed one after the other, each made of the bytes given.
 -- Assumes nothing.
-use Prim.Native.Nat.{ℕ, zero, suc, _+_, _≤_, _<_}
+use Prim.Native.Nat.{ℕ, zero, suc, _+_, _*_, _≤_, _<_}
 use mathlib.Core.Path.{_≡_, refl, ap, _∙_}
 use mathlib.Core.Bool.{Bool, true, false, _||_}
 use mathlib.Core.List.{List, [], _∷_, _++_}
@@ -8,6 +8,7 @@ use native.Mathlib.Numerals.{add-one}
 use native.Mathlib.Omega.{arith}
 use lib.ListN.{length, drop, getD, set, length-set}
 use lib.Seq.{drop-cons, append-snoc, set-at}
+use Rattle.model.specs.Numbers.{wordBytes}
 use Rattle.model.specs.HexLoad.{firsts}
 use Rattle.model.proofs.HexLoad.{length-firsts}
 
@@ -53,6 +54,15 @@ placed-more {f} {xs₀} {xs} {size} {k} v b e h g =
           ap (set xs k) e ∙ ap (λ (l : List ℕ). set l k (f k)) (b .placed) ∙ next-placed f xs₀ k (omega arith);
       whole = length-set xs k v ∙ b .whole;
     }
+
+-- There is a place for it.
+pub placed-room : {f : ℕ → ℕ} {xs₀ xs : List ℕ} {size k : ℕ} → Placed f xs₀ xs size k → k < size → size ≤ length xs₀
+    → k < length xs
+placed-room b h g = omega (arith, b .whole)
+
+-- Its bytes are among those of the size.
+pub bytes-within : {size k n : ℕ} → k < size → wordBytes * size ≤ n → wordBytes * (k + 1) ≤ n
+bytes-within h g = omega arith
 
 -- All below the size.
 pub placed-end : {f : ℕ → ℕ} {xs₀ xs : List ℕ} {size k : ℕ} → Placed f xs₀ xs size k → size ≤ k

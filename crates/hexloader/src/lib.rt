@@ -6,6 +6,7 @@ use causes::Cause;
 use causes::Outcome;
 use header::load_header;
 use hexreader::NO_BYTE;
+use labels::Bits;
 use machine::Machine;
 use model::numbers;
 use reader::read_line;
@@ -81,11 +82,11 @@ fn load_alone(text: &[u8], words: usize, labels: usize) -> Loaded
 // written.
 fn place_records(
     hex: &[u8],
-    label: u8,
+    label: Bits,
     machine: Machine,
     places: &mut [u16],
     words: &mut [u32],
-    labels: &mut [u8],
+    labels: &mut [Bits],
 ) -> Loaded
     requires { ⌜ length (now places) ≡ wordBytes * machine .fixed .size ⌝ }
     requires { ⌜ (machine .fixed .size ≤ length (now words)) × (machine .fixed .size ≤ length (now labels)) ⌝ }
@@ -109,10 +110,10 @@ fn place_records(
 // The records loaded for the machine of an M text.
 fn load_records(
     hex: &[u8],
-    label: u8,
+    label: Bits,
     machine: Machine,
     words: &mut [u32],
-    labels: &mut [u8],
+    labels: &mut [Bits],
 ) -> Loaded
     requires { ⌜ machine .fixed .size ≤ mostWords ⌝ }
     requires { ⌜ (machine .fixed .size ≤ length (now words)) × (machine .fixed .size ≤ length (now labels)) ⌝ }
@@ -125,7 +126,13 @@ fn load_records(
 
 // Load an M text with a HEX text, whose words get this label, into the machine record and the lent memory. A refusal
 // leaves words and labels as they are.
-pub fn load_hex(text: &[u8], hex: &[u8], label: u8, words: &mut [u32], labels: &mut [u8]) -> Loaded
+pub fn load_hex(
+    text: &[u8],
+    hex: &[u8],
+    label: Bits,
+    words: &mut [u32],
+    labels: &mut [Bits],
+) -> Loaded
     ensures { λ r. ⌜ loadingOf r (now (words .exit)) (now (labels .exit)) ≡ loadHex (now (text .entry)) (now (hex .entry)) label (lent (now (words .entry)) (now (labels .entry))) ⌝ }
 {
     let alone = load_alone(text, words.len(), labels.len());

@@ -1,6 +1,7 @@
 // The words and labels of memory, made of the bytes that were given.
 use crate::WORD_BYTES;
 use hexreader::NO_BYTE;
+use labels::Bits;
 use labels::Label;
 ghost use mathlib.Core.Path.{_≡_};
 ghost use mathlib.Core.List.{_++_};
@@ -40,7 +41,7 @@ fn is_given(places: &[u16], at: usize) -> bool
 }
 
 // The label of the word at address k: the one given, where the word has a byte.
-fn label_at(places: &[u16], label: u8, k: usize) -> u8
+fn label_at(places: &[u16], label: Bits, k: usize) -> Bits
     requires { ⌜ wordBytes * (k + 1) ≤ length (now places) ⌝ }
     ensures { λ r. ⌜ r ≡ wordLabel label (now (places .entry)) k ⌝ }
 {
@@ -64,7 +65,7 @@ pub(in crate) fn put_words(places: &[u16], size: usize, words: &mut [u32])
 }
 
 // Their labels.
-pub(in crate) fn put_labels(places: &[u16], label: u8, size: usize, labels: &mut [u8])
+pub(in crate) fn put_labels(places: &[u16], label: Bits, size: usize, labels: &mut [Bits])
     requires { ⌜ wordBytes * size ≤ length (now places) ⌝ }
     requires { ⌜ size ≤ length (now labels) ⌝ }
     ensures { λ r. ⌜ now (labels .exit) ≡ firsts size (wordLabel label (now (places .entry))) ++ drop size (now (labels .entry)) ⌝ }

@@ -6,6 +6,7 @@ use crate::is_short;
 use causes::Outcome;
 use certify::Certificate;
 use certify::certify;
+use labels::Bits;
 ghost use Prim.Native.Nat.{_≤_};
 ghost use mathlib.Core.Path.{_≡_};
 ghost use lib.ListN.{length};
@@ -37,10 +38,10 @@ fn keep_certificate(outcome: Outcome, certificate: Certificate, buffer: &mut [u6
 // Certifies a text at a label: the certificate goes to its buffer, and words and labels hold what the run to the end leaves.
 #[no_mangle]
 pub extern "C" fn jennydusk_certify(
-    label: u8,
+    label: Bits,
     text: &[u8],
     words: &mut [u32],
-    labels: &mut [u8],
+    labels: &mut [Bits],
     certificate: &mut [u64],
 ) -> u64
     ensures { λ r. ⌜ left r (now (certificate .exit)) (now (words .exit)) (now (labels .exit)) ≡ certifyCall label (now (text .entry)) (lent (now (words .entry)) (now (labels .entry))) (now (certificate .entry)) ⌝ }

@@ -1,11 +1,12 @@
 // The label rules for programs in other languages, each the one of the crate labels. A label passes as its byte.
+use labels::Bits;
 use labels::Label;
 ghost use mathlib.Core.Path.{_≡_};
 ghost use Rattle.labels.specs.Label.{flows, join, meet, reflection, uncompromised, validPair};
 
 // Whether what bears the one label may reach what bears the other.
 #[no_mangle]
-pub extern "C" fn jennydusk_flows(from: u8, to: u8) -> bool
+pub extern "C" fn jennydusk_flows(from: Bits, to: Bits) -> bool
     ensures { λ r. ⌜ r ≡ flows from to ⌝ }
 {
     Label(from).flows_to(Label(to))
@@ -13,7 +14,7 @@ pub extern "C" fn jennydusk_flows(from: u8, to: u8) -> bool
 
 // The lowest label that both flow to.
 #[no_mangle]
-pub extern "C" fn jennydusk_join(one: u8, other: u8) -> u8
+pub extern "C" fn jennydusk_join(one: Bits, other: Bits) -> Bits
     ensures { λ r. ⌜ r ≡ join one other ⌝ }
 {
     Label(one).join(Label(other)).0
@@ -21,7 +22,7 @@ pub extern "C" fn jennydusk_join(one: u8, other: u8) -> u8
 
 // The highest label that flows to both.
 #[no_mangle]
-pub extern "C" fn jennydusk_meet(one: u8, other: u8) -> u8
+pub extern "C" fn jennydusk_meet(one: Bits, other: Bits) -> Bits
     ensures { λ r. ⌜ r ≡ meet one other ⌝ }
 {
     Label(one).meet(Label(other)).0
@@ -29,7 +30,7 @@ pub extern "C" fn jennydusk_meet(one: u8, other: u8) -> u8
 
 // Integrity and confidentiality exchanged.
 #[no_mangle]
-pub extern "C" fn jennydusk_reflection(label: u8) -> u8
+pub extern "C" fn jennydusk_reflection(label: Bits) -> Bits
     ensures { λ r. ⌜ r ≡ reflection label ⌝ }
 {
     Label(label).reflection().0
@@ -37,7 +38,7 @@ pub extern "C" fn jennydusk_reflection(label: u8) -> u8
 
 // Whether a label is uncompromised: the paper's sound.
 #[no_mangle]
-pub extern "C" fn jennydusk_is_sound(label: u8) -> bool
+pub extern "C" fn jennydusk_is_sound(label: Bits) -> bool
     ensures { λ r. ⌜ r ≡ uncompromised label ⌝ }
 {
     Label(label).is_uncompromised()
@@ -45,7 +46,7 @@ pub extern "C" fn jennydusk_is_sound(label: u8) -> bool
 
 // Whether a pc label and a timing label make a valid pair.
 #[no_mangle]
-pub extern "C" fn jennydusk_is_valid_pair(pc: u8, timing: u8) -> bool
+pub extern "C" fn jennydusk_is_valid_pair(pc: Bits, timing: Bits) -> bool
     ensures { λ r. ⌜ r ≡ validPair pc timing ⌝ }
 {
     Label(pc).is_valid_pair(Label(timing))

@@ -5,6 +5,7 @@
 use causes::Cause;
 use causes::Outcome;
 use decoder::Found;
+use labels::Bits;
 use loader::load;
 use machine::Machine;
 use model::Request;
@@ -66,7 +67,7 @@ pub(in crate) fn counted(number: u64, count: u64) -> u64
 pub extern "C" fn jennydusk_load(
     text: &[u8],
     words: &mut [u32],
-    labels: &mut [u8],
+    labels: &mut [Bits],
     record: &mut [u64],
 ) -> u64
     ensures { λ r. ⌜ left r (now («record» .exit)) (now (words .exit)) (now (labels .exit)) ≡ loadCall (now (text .entry)) (lent (now (words .entry)) (now (labels .entry))) (now («record» .entry)) ⌝ }
@@ -84,7 +85,7 @@ pub extern "C" fn jennydusk_load(
 }
 
 // One step of the record in the buffer, its run or its run to a tick: what the three calls below share.
-fn advanced(request: Request, record: &mut [u64], words: &mut [u32], labels: &mut [u8]) -> u64
+fn advanced(request: Request, record: &mut [u64], words: &mut [u32], labels: &mut [Bits]) -> u64
     ensures { λ r. ⌜ left r (now («record» .exit)) (now (words .exit)) (now (labels .exit)) ≡ recordCall (answerOf request) (now («record» .entry)) (lent (now (words .entry)) (now (labels .entry))) ⌝ }
 {
     if is_short(record, RECORD_SPAN) {
@@ -105,7 +106,7 @@ fn advanced(request: Request, record: &mut [u64], words: &mut [u32], labels: &mu
 
 // One step of the record.
 #[no_mangle]
-pub extern "C" fn jennydusk_step(record: &mut [u64], words: &mut [u32], labels: &mut [u8]) -> u64
+pub extern "C" fn jennydusk_step(record: &mut [u64], words: &mut [u32], labels: &mut [Bits]) -> u64
     ensures { λ r. ⌜ left r (now («record» .exit)) (now (words .exit)) (now (labels .exit)) ≡ stepCall (now («record» .entry)) (lent (now (words .entry)) (now (labels .entry))) ⌝ }
 {
     advanced(Request::Step, record, words, labels)
@@ -113,7 +114,7 @@ pub extern "C" fn jennydusk_step(record: &mut [u64], words: &mut [u32], labels: 
 
 // Steps of the record until its end isn't 0.
 #[no_mangle]
-pub extern "C" fn jennydusk_run(record: &mut [u64], words: &mut [u32], labels: &mut [u8]) -> u64
+pub extern "C" fn jennydusk_run(record: &mut [u64], words: &mut [u32], labels: &mut [Bits]) -> u64
     ensures { λ r. ⌜ left r (now («record» .exit)) (now (words .exit)) (now (labels .exit)) ≡ runCall (now («record» .entry)) (lent (now (words .entry)) (now (labels .entry))) ⌝ }
 {
     advanced(Request::Run, record, words, labels)
@@ -124,7 +125,7 @@ pub extern "C" fn jennydusk_run(record: &mut [u64], words: &mut [u32], labels: &
 pub extern "C" fn jennydusk_run_to(
     record: &mut [u64],
     words: &mut [u32],
-    labels: &mut [u8],
+    labels: &mut [Bits],
     tick: u64,
 ) -> u64
     ensures { λ r. ⌜ left r (now («record» .exit)) (now (words .exit)) (now (labels .exit)) ≡ runToCall tick (now («record» .entry)) (lent (now (words .entry)) (now (labels .entry))) ⌝ }

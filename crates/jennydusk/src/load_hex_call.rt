@@ -5,6 +5,7 @@ use crate::SHORT_BUFFER;
 use crate::is_short;
 use crate::keep;
 use hexloader::load_hex;
+use labels::Bits;
 ghost use mathlib.Core.Path.{_≡_};
 ghost use Rattle.model.specs.Record.{lent};
 ghost use Rattle.jennydusk.specs.Calls.{left, loadHexCall};
@@ -15,9 +16,9 @@ ghost use Rattle.jennydusk.specs.Calls.{left, loadHexCall};
 pub extern "C" fn jennydusk_load_hex(
     text: &[u8],
     hex: &[u8],
-    label: u8,
+    label: Bits,
     words: &mut [u32],
-    labels: &mut [u8],
+    labels: &mut [Bits],
     record: &mut [u64],
     line: &mut u64,
 ) -> u64

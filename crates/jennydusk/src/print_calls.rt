@@ -5,6 +5,7 @@ use crate::counted;
 use crate::is_short;
 use crate::no_record;
 use decoder::Found;
+use labels::Bits;
 use labels::Label;
 use printer::print_for;
 ghost use mathlib.Core.Path.{_≡_};
@@ -16,8 +17,8 @@ ghost use Rattle.jennydusk.specs.Calls.{shown, printForCall, printCall};
 pub extern "C" fn jennydusk_print_for(
     record: &[u64],
     words: &[u32],
-    labels: &[u8],
-    label: u8,
+    labels: &[Bits],
+    label: Bits,
     out: &mut [u8],
 ) -> u64
     ensures { λ r. ⌜ shown r (now (out .exit)) ≡ printForCall label (now («record» .entry)) (lent (now (words .entry)) (now (labels .entry))) (now (out .entry)) ⌝ }
@@ -43,7 +44,7 @@ pub extern "C" fn jennydusk_print_for(
 pub extern "C" fn jennydusk_print(
     record: &[u64],
     words: &[u32],
-    labels: &[u8],
+    labels: &[Bits],
     out: &mut [u8],
 ) -> u64
     ensures { λ r. ⌜ shown r (now (out .exit)) ≡ printCall (now («record» .entry)) (lent (now (words .entry)) (now (labels .entry))) (now (out .entry)) ⌝ }

@@ -1,5 +1,6 @@
 // A view for programs in other languages: a text is loaded, run to a tick and listed for a viewer's label.
 use crate::counted;
+use labels::Bits;
 use view::view;
 ghost use mathlib.Core.Path.{_≡_};
 ghost use Rattle.model.specs.Record.{lent};
@@ -9,10 +10,10 @@ ghost use Rattle.jennydusk.specs.Calls.{looked, viewCall};
 #[no_mangle]
 pub extern "C" fn jennydusk_view(
     text: &[u8],
-    label: u8,
+    label: Bits,
     tick: u64,
     words: &mut [u32],
-    labels: &mut [u8],
+    labels: &mut [Bits],
     out: &mut [u8],
 ) -> u64
     ensures { λ r. ⌜ looked r (now (out .exit)) (now (words .exit)) (now (labels .exit)) ≡ viewCall (now (text .entry)) label tick (lent (now (words .entry)) (now (labels .entry))) (now (out .entry)) ⌝ }

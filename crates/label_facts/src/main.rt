@@ -1,12 +1,13 @@
 // The label rules at work without the machine: document 01's firings about labels alone, a line each, computed by the
 // compiled code.
+use labels::Bits;
 use labels::Label;
 
 fn say(text: &[u8]) {
     io::write_all(1, text);
 }
 
-fn number(n: u8) {
+fn number(n: Bits) {
     io::print_decimal(1, n as u64);
 }
 
@@ -18,7 +19,7 @@ fn answer(holds: bool) {
     }
 }
 
-fn flow(from: u8, to: u8) {
+fn flow(from: Bits, to: Bits) {
     number(from);
     say(b" flows to ");
     number(to);
@@ -26,7 +27,7 @@ fn flow(from: u8, to: u8) {
 }
 
 // What two labels make together, under its name.
-fn together(name: &[u8], a: u8, b: u8, made: Label) {
+fn together(name: &[u8], a: Bits, b: Bits, made: Label) {
     say(name);
     number(a);
     say(b" and ");
@@ -36,22 +37,22 @@ fn together(name: &[u8], a: u8, b: u8, made: Label) {
     say(b"\n");
 }
 
-fn join(a: u8, b: u8) {
+fn join(a: Bits, b: Bits) {
     together(b"join of ", a, b, Label(a).join(Label(b)));
 }
 
-fn meet(a: u8, b: u8) {
+fn meet(a: Bits, b: Bits) {
     together(b"meet of ", a, b, Label(a).meet(Label(b)));
 }
 
-fn soundness(label: u8) {
+fn soundness(label: Bits) {
     number(label);
     say(b" is uncompromised");
     answer(Label(label).is_uncompromised());
 }
 
 // A change of label, before its answer.
-fn change(verb: &[u8], from: u8, to: u8, under: u8) {
+fn change(verb: &[u8], from: Bits, to: Bits, under: Bits) {
     say(verb);
     number(from);
     say(b" to ");
@@ -60,12 +61,12 @@ fn change(verb: &[u8], from: u8, to: u8, under: u8) {
     number(under);
 }
 
-fn raise(from: u8, to: u8, under: u8) {
+fn raise(from: Bits, to: Bits, under: Bits) {
     change(b"raise ", from, to, under);
     answer(Label(from).may_raise(Label(to), Label(under)));
 }
 
-fn relabel(from: u8, to: u8, under: u8) {
+fn relabel(from: Bits, to: Bits, under: Bits) {
     change(b"relabel ", from, to, under);
     answer(Label(from).may_relabel(Label(to), Label(under)));
 }

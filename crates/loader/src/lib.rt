@@ -4,6 +4,7 @@ use causes::Outcome;
 use header::Loaded;
 use header::load_header;
 use header::refused;
+use labels::Bits;
 use labels::Label;
 use machine::Machine;
 use model::CallGate;
@@ -42,8 +43,8 @@ fn with_gate(machine: Machine, pc: u64, p: u64, t: u64) -> Machine
     gates[at] = CallGate {
         entry: pc as u32,
         pair: Pair {
-            pc: p as u8,
-            timing: t as u8,
+            pc: p as Bits,
+            timing: t as Bits,
         },
     };
     fixed.gates = gates;
@@ -61,7 +62,7 @@ fn with_register(machine: Machine, k: u64, label: u64, value: u64) -> Machine
     let mut next = machine;
     let at = k as usize;
     next.values[at] = value as u32;
-    next.labels[at] = label as u8;
+    next.labels[at] = label as Bits;
     next
 }
 
@@ -80,7 +81,7 @@ fn with_line(machine: Machine, line: Line) -> Machine
 }
 
 // The word of a W line.
-fn store_word(line: Line, words: &mut [u32], labels: &mut [u8])
+fn store_word(line: Line, words: &mut [u32], labels: &mut [Bits])
     requires { ⌜ isStorable (length (now words)) line ≡ true ⌝ }
     requires { ⌜ isStorable (length (now labels)) line ≡ true ⌝ }
     ensures { λ r. ⌜ lent (now (words .exit)) (now (labels .exit)) ≡ withWord (lent (now (words .entry)) (now (labels .entry))) line ⌝ }
@@ -90,7 +91,7 @@ fn store_word(line: Line, words: &mut [u32], labels: &mut [u8])
     };
     let at = address as usize;
     words[at] = value as u32;
-    labels[at] = label as u8;
+    labels[at] = label as Bits;
 }
 
 // The lines from `start` on, behind the M line of this machine: each is judged, and its word kept where it is accepted.
@@ -100,7 +101,7 @@ fn judge_lines(
     start: usize,
     header: Machine,
     words: &mut [u32],
-    labels: &mut [u8],
+    labels: &mut [Bits],
 ) -> Loaded
     requires { ⌜ length (now text) ≤ longestText ⌝ }
     requires { ⌜ (header .fixed .size ≤ length (now words)) × (header .fixed .size ≤ length (now labels)) ⌝ }
@@ -143,7 +144,7 @@ fn copy_words(size: usize, kept: &[u32], words: &mut [u32])
 }
 
 // Their labels.
-fn copy_labels(size: usize, kept: &[u8], labels: &mut [u8])
+fn copy_labels(size: usize, kept: &[Bits], labels: &mut [Bits])
     requires { ⌜ (size ≤ length (now kept)) × (size ≤ length (now labels)) ⌝ }
     ensures { λ r. ⌜ now (labels .exit) ≡ take size (now (kept .entry)) ++ drop size (now (labels .entry)) ⌝ }
 {
@@ -161,7 +162,7 @@ fn load_lines(
     start: usize,
     header: Machine,
     words: &mut [u32],
-    labels: &mut [u8],
+    labels: &mut [Bits],
 ) -> Loaded
     requires { ⌜ length (now text) ≤ longestText ⌝ }
     requires { ⌜ header .fixed .size ≤ mostWords ⌝ }
@@ -181,7 +182,7 @@ fn load_lines(
 }
 
 // Load a text into the machine record and the lent memory. A refusal leaves words and labels as they are.
-pub fn load(text: &[u8], words: &mut [u32], labels: &mut [u8]) -> Loaded
+pub fn load(text: &[u8], words: &mut [u32], labels: &mut [Bits]) -> Loaded
     ensures { λ r. ⌜ loadingOf r (now (words .exit)) (now (labels .exit)) ≡ load (now (text .entry)) (lent (now (words .entry)) (now (labels .entry))) ⌝ }
 {
     let read = read_line(text);

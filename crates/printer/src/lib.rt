@@ -3,6 +3,7 @@
 // output as it was.
 use causes::Cause;
 use causes::Outcome;
+use labels::Bits;
 use labels::Label;
 use machine::Machine;
 use machine::is_blank;
@@ -20,8 +21,7 @@ ghost use lib.ListN.{length};
 ghost use Rattle.model.specs.Record.{lent};
 ghost use Rattle.model.specs.Numbers.{mostFields};
 ghost use Rattle.model.specs.Seen.{within};
-ghost use Rattle.model.specs.Listing.{line, endFields, callFields, callLine, headLines, headFor, isListed, entryFor, entryLines, listingFor, listed, printFor};
-ghost use Rattle.model.specs.Listing.{print as Listing·print};
+ghost use Rattle.model.specs.Listing.{line, endFields, callFields, callLine, headLines, headFor, isListed, entryFor, entryLines, listingFor, listed, printFor, print as Listing·print};
 ghost use Rattle.texts.specs.Inner.Sight.{controlSeen, entrySeen, bankSeen};
 ghost use Rattle.machine.specs.Answered.{recordOf};
 ghost use Rattle.printer.specs.Printing.{printingOf};
@@ -59,7 +59,7 @@ struct Section {
 // A register or a word: its number, its label and its value.
 struct Entry {
     number: usize,
-    label: u8,
+    label: Bits,
     value: u32,
 }
 
@@ -74,51 +74,52 @@ fn refused(machine: Machine, cause: Cause) -> Printed
     }
 }
 
-// Prints the machine with the memory that is lent to it: everything, for the label that every other flows to.
-pub fn print(machine: Machine, words: &[u32], labels: &[u8], out: &mut [u8]) -> Printed
-    ensures { λ r. ⌜ printingOf r (now (out .exit)) ≡ Listing·print (recordOf machine) (lent (now (words .entry)) (now (labels .entry))) (now (out .entry)) ⌝ }
+// Prints the machine with the memory that is lent to it, words and their labels, the marks: everything, for the label that
+// every other flows to.
+pub fn print(machine: Machine, words: &[u32], marks: &[Bits], out: &mut [u8]) -> Printed
+    ensures { λ r. ⌜ printingOf r (now (out .exit)) ≡ Listing·print (recordOf machine) (lent (now (words .entry)) (now (marks .entry))) (now (out .entry)) ⌝ }
 {
-    print_for(machine, Label::HIGHEST.0, words, labels, out)
+    print_for(machine, Label::HIGHEST.0, words, marks, out)
 }
 
 // Prints what the label `viewer` sees of it.
 pub fn print_for(
     machine: Machine,
-    viewer: u8,
+    viewer: Bits,
     words: &[u32],
-    labels: &[u8],
+    marks: &[Bits],
     out: &mut [u8],
 ) -> Printed
-    ensures { λ r. ⌜ printingOf r (now (out .exit)) ≡ printFor viewer (recordOf machine) (lent (now (words .entry)) (now (labels .entry))) (now (out .entry)) ⌝ }
+    ensures { λ r. ⌜ printingOf r (now (out .exit)) ≡ printFor viewer (recordOf machine) (lent (now (words .entry)) (now (marks .entry))) (now (out .entry)) ⌝ }
 {
     let fixed = machine.fixed;
     let well_formed = machine.is_well_formed();
-    let whole = is_lent_whole(fixed.size, words, labels);
+    let whole = is_lent_whole(fixed.size, words, marks);
     if !well_formed {
         return refused(machine, Cause::IllFormed);
     }
     if !whole {
         return refused(machine, Cause::ShortMemory);
     }
-    print_whole(machine, viewer, words, labels, out)
+    print_whole(machine, viewer, words, marks, out)
 }
 
 // Prints a machine whose memory is whole, where the output is long enough.
 fn print_whole(
     machine: Machine,
-    viewer: u8,
+    viewer: Bits,
     words: &[u32],
-    labels: &[u8],
+    marks: &[Bits],
     out: &mut [u8],
 ) -> Printed
-    requires { ⌜ Entries (now words) (now labels) (machine .fixed .size) ⌝ }
-    ensures { λ r. ⌜ printingOf r (now (out .exit)) ≡ listed (recordOf machine) (listingFor viewer (stateWith machine (now (words .entry)) (now (labels .entry)))) (now (out .entry)) ⌝ }
+    requires { ⌜ Entries (now words) (now marks) (machine .fixed .size) ⌝ }
+    ensures { λ r. ⌜ printingOf r (now (out .exit)) ≡ listed (recordOf machine) (listingFor viewer (stateWith machine (now (words .entry)) (now (marks .entry)))) (now (out .entry)) ⌝ }
 {
-    let count = listing_length(machine, viewer, words, labels);
+    let count = listing_length(machine, viewer, words, marks);
     if out.len() < count {
         return refused(machine, Cause::ShortOutput);
     }
-    write_listing(out, machine, viewer, words, labels);
+    write_listing(out, machine, viewer, words, marks);
     Printed {
         outcome: Outcome::Done,
         bytes: count,
@@ -127,12 +128,12 @@ fn print_whole(
 }
 
 // How many bytes the listing takes: where it would end in an output without a byte.
-fn listing_length(machine: Machine, viewer: u8, words: &[u32], labels: &[u8]) -> usize
-    requires { ⌜ Entries (now words) (now labels) (machine .fixed .size) ⌝ }
-    ensures { λ r. ⌜ r ≡ length (listingFor viewer (stateWith machine (now (words .entry)) (now (labels .entry)))) ⌝ }
+fn listing_length(machine: Machine, viewer: Bits, words: &[u32], marks: &[Bits]) -> usize
+    requires { ⌜ Entries (now words) (now marks) (machine .fixed .size) ⌝ }
+    ensures { λ r. ⌜ r ≡ length (listingFor viewer (stateWith machine (now (words .entry)) (now (marks .entry)))) ⌝ }
 {
     let mut none = [0u8; 0];
-    write_listing(&mut none, machine, viewer, words, labels)
+    write_listing(&mut none, machine, viewer, words, marks)
 }
 
 // ---- writing: each function is lent the output and the place where the line before it ended, and gives the place where
@@ -142,16 +143,16 @@ fn listing_length(machine: Machine, viewer: u8, words: &[u32], labels: &[u8]) ->
 fn write_listing(
     out: &mut [u8],
     machine: Machine,
-    viewer: u8,
+    viewer: Bits,
     words: &[u32],
-    labels: &[u8],
+    marks: &[Bits],
 ) -> usize
-    requires { ⌜ Entries (now words) (now labels) (machine .fixed .size) ⌝ }
-    ensures { λ r. ⌜ Placed (listingFor viewer (stateWith machine (now (words .entry)) (now (labels .entry)))) (now (out .entry)) 0 r (now (out .exit)) ⌝ }
+    requires { ⌜ Entries (now words) (now marks) (machine .fixed .size) ⌝ }
+    ensures { λ r. ⌜ Placed (listingFor viewer (stateWith machine (now (words .entry)) (now (marks .entry)))) (now (out .entry)) 0 r (now (out .exit)) ⌝ }
 {
     let control = machine.control;
     let values = machine.values;
-    let marks = machine.labels;
+    let labels = machine.labels;
     let size = machine.fixed.size as usize;
     let registers = Section {
         letter: R,
@@ -162,8 +163,8 @@ fn write_listing(
         count: size,
     };
     let mut at = write_head(out, viewer, control);
-    at = write_entries(out, at, viewer, registers, &values, &marks);
-    write_entries(out, at, viewer, memory, words, labels)
+    at = write_entries(out, at, viewer, registers, &values, &labels);
+    write_entries(out, at, viewer, memory, words, marks)
 }
 
 // Writes a line.
@@ -180,7 +181,7 @@ fn write_line_at(out: &mut [u8], at: usize, letter: u8, numbers: &[u64]) -> usiz
 // ---- what the viewer sees
 
 // Whether what bears this label is seen: it flows to the viewer's.
-fn is_seen(viewer: u8, label: u8) -> bool
+fn is_seen(viewer: Bits, label: Bits) -> bool
     ensures { λ r. ⌜ r ≡ within viewer label ⌝ }
 {
     Label(label).flows_to(Label(viewer))
@@ -189,7 +190,7 @@ fn is_seen(viewer: u8, label: u8) -> bool
 // ---- the E line and the F lines
 
 // Writes them, or a line `H` in their place where the pc label is not seen.
-fn write_head(out: &mut [u8], viewer: u8, control: Control) -> usize
+fn write_head(out: &mut [u8], viewer: Bits, control: Control) -> usize
     ensures { λ r. ⌜ Placed (headFor (controlSeen viewer control)) (now (out .entry)) 0 r (now (out .exit)) ⌝ }
 {
     let pair = control.pair;
@@ -257,10 +258,10 @@ fn call_fields(kind: u64, back: u32, pair: Pair, tick: u64) -> [u64; 5]
 fn write_entries(
     out: &mut [u8],
     start: usize,
-    viewer: u8,
+    viewer: Bits,
     section: Section,
     values: &[u32],
-    labels: &[u8],
+    labels: &[Bits],
 ) -> usize
     requires { ⌜ Entries (now values) (now labels) (section .count) × (start + longestEntry * section .count ≤ longest) ⌝ }
     ensures { λ r. ⌜ Placed (entryLines (section .letter) (bankSeen viewer (lent (now (values .entry)) (now (labels .entry)))) 0 (section .count)) (now (out .entry)) start r (now (out .exit)) ⌝ }
@@ -282,7 +283,7 @@ fn write_entries(
 }
 
 // Writes the line of an entry, if it has one.
-fn write_entry(out: &mut [u8], at: usize, viewer: u8, letter: u8, entry: Entry) -> usize
+fn write_entry(out: &mut [u8], at: usize, viewer: Bits, letter: u8, entry: Entry) -> usize
     requires { ⌜ at ≤ longest ⌝ }
     ensures { λ r. ⌜ Placed (entryFor letter (entry .number) (entrySeen viewer (entry .label) (entry .value))) (now (out .entry)) at r (now (out .exit)) ⌝ }
 {
@@ -301,7 +302,7 @@ fn entry_fields(entry: Entry) -> [u64; 3]
 }
 
 // Whether an entry is seen and differs from value 0, label 240.
-fn is_listed(viewer: u8, label: u8, value: u32) -> bool
+fn is_listed(viewer: Bits, label: Bits, value: u32) -> bool
     ensures { λ r. ⌜ r ≡ (within viewer label && isListed label value) ⌝ }
 {
     is_seen(viewer, label) & !is_blank(label, value)

@@ -9,9 +9,10 @@ use native.Mathlib.Omega.{arith}
 use borrow.Author.Tests.{lt-ltb}
 use lib.ListN.{length, take, drop, set, replicate, length-set, length-replicate}
 use lib.Seq.{length-take-le, set-append-left, take-set-lt}
-use Rattle.labels.specs.Label.{lowest}
+use Rattle.labels.specs.Label.{labelCount, lowest}
 use Rattle.model.specs.declared.format.Line.{Line}
 use Rattle.model.specs.declared.format.Line.the-variants.{M, G, R, W, Malformed}
+use Rattle.model.specs.Numbers.{valueCount}
 use Rattle.model.specs.Record.{Bank}
 use Rattle.model.specs.Ops.{isLabel}
 use Rattle.model.specs.Load.{blank, entryInRange, cleared, withWord, fill}
@@ -29,7 +30,7 @@ storable-wider a b (G _ _ _) h e = e
 storable-wider a b (R _ _ _) h e = e
 storable-wider a b (W k l v) h e =
     let r : EntryRange a k l v = entry-range a k l v e in
-    rw (lt-ltb k b (omega (arith, r .below)), lt-ltb l 256 (r .label), lt-ltb v 4294967296 (r .value))
+    rw (lt-ltb k b (omega (arith, r .below)), lt-ltb l labelCount (r .label), lt-ltb v valueCount (r .value))
 storable-wider a b Malformed h e = e
 
 -- The numbers of a W line that may be written.

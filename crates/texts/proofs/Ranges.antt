@@ -1,20 +1,22 @@
 -- What the tests of a line's numbers say: each number is in its range.
 -- Assumes nothing.
-use Prim.Native.Nat.{ℕ, _≤_, _<_, _^_}
+use Prim.Native.Nat.{ℕ, _≤_, _<_}
 use mathlib.Core.Path.{_≡_}
 use mathlib.Core.Bool.{true}
 use borrow.Author.Tests.{leb-true, ltb-true}
+use Rattle.labels.specs.Label.{labelCount}
 use Rattle.model.specs.declared.judging.Header.{Header}
+use Rattle.model.specs.Numbers.{valueCount, mostWords, mostTicks, mostGates}
 use Rattle.model.specs.Ops.{isLabel}
 use Rattle.model.specs.Load.{headerInRange, gateInRange, entryInRange}
 use Rattle.model.proofs.Truth.{and-iff}
 
 -- The numbers of a G line, in their ranges.
 pub record GateRange (count pc p t : ℕ) : Type 0 where
-  pub pc-fits : pc < 2 ^ 32
-  pub p-fits : p < 256
-  pub t-fits : t < 256
-  pub few : count < 8
+  pub pc-fits : pc < valueCount
+  pub p-fits : p < labelCount
+  pub t-fits : t < labelCount
+  pub few : count < mostGates
 
 -- What the test of a G line says.
 pub gate-range : (count pc p t : ℕ) → gateInRange count pc p t ≡ true → GateRange count pc p t
@@ -31,8 +33,8 @@ gate-range count pc p t e =
 -- The numbers of an R or W line, in their ranges.
 pub record EntryRange (bound k l v : ℕ) : Type 0 where
   pub below : k < bound
-  pub label : l < 256
-  pub value : v < 2 ^ 32
+  pub label : l < labelCount
+  pub value : v < valueCount
 
 -- What the test of an R or W line says.
 pub entry-range : (bound k l v : ℕ) → entryInRange bound k l v ≡ true → EntryRange bound k l v
@@ -43,12 +45,12 @@ entry-range bound k l v e =
 
 -- The numbers of an M line, in their ranges.
 pub record HeaderRange (h : Header) : Type 0 where
-  pub size-fits : h .size ≤ 2048
-  pub errorpc-fits : h .errorpc < 2 ^ 32
-  pub pc-fits : h .pc < 2 ^ 32
-  pub p-fits : h .p < 256
-  pub t-fits : h .t < 256
-  pub limit-fits : h .limit ≤ 2 ^ 24
+  pub size-fits : h .size ≤ mostWords
+  pub errorpc-fits : h .errorpc < valueCount
+  pub pc-fits : h .pc < valueCount
+  pub p-fits : h .p < labelCount
+  pub t-fits : h .t < labelCount
+  pub limit-fits : h .limit ≤ mostTicks
 
 -- What the test of an M line says.
 pub header-range : (h : Header) → headerInRange h ≡ true → HeaderRange h

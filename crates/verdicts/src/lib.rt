@@ -1,6 +1,7 @@
 // The verdict on a line: the outcome of its tests, tried in the paper's order.
 use causes::Cause;
 use causes::Outcome;
+use labels::Bits;
 use labels::Label;
 use model::format::Line;
 use model::judging::Header;
@@ -101,7 +102,7 @@ pub fn header_verdict(header: Header, words: usize, labels: usize) -> Outcome
     if !header_in_range(header) {
         return Outcome::Refused(Cause::OutOfRange);
     }
-    if !Label(header.p as u8).is_valid_pair(Label(header.t as u8)) {
+    if !Label(header.p as Bits).is_valid_pair(Label(header.t as Bits)) {
         return Outcome::Refused(Cause::InvalidPair);
     }
     if !lent_whole {
@@ -120,7 +121,7 @@ fn gate_verdict(count: u32, last: Last, pc: u64, p: u64, t: u64) -> Outcome
     if !gate_in_range(count, pc, p, t) {
         return Outcome::Refused(Cause::OutOfRange);
     }
-    if !Label(p as u8).is_valid_pair(Label(t as u8)) {
+    if !Label(p as Bits).is_valid_pair(Label(t as Bits)) {
         return Outcome::Refused(Cause::GatePair);
     }
     Outcome::Done

@@ -15,7 +15,7 @@ use Rattle.model.specs.Seen.{LowEquivalent}
 use Rattle.model.specs.Noninterference.{trace, atTick, reached, SameSetting}
 use Rattle.model.specs.Certificate.{Certificate, certify}
 use Rattle.model.specs.Facts.{wordOf, stop}
-use Rattle.witnesses.specs.Witness.{Loads, fixedOf, usual, begin, twice, fill, holding, machine, oneRun, provisosHold, left, right, timedBySecret}
+use Rattle.witnesses.specs.Witness.{Loads, fixedOf, usual, begin, twice, padded, holding, machine, oneRun, provisosHold, left, right, timedBySecret}
 
 -- ---- each cause is needed
 
@@ -99,8 +99,8 @@ preciseTable =
     ∷ tells 240 (precise 2 3 (twice 240) (relabels 11)) 1 2 0
     -- p doesn't flow to the new label, or that not to the reflection of p; a label for which both hold is told
     ∷ isWhole 18 (precise 60 0 fifty (relabels 11))
-    ∷ isWhole 18 (machine (fixedOf 12 60 11 0 2) (begin fifty) (relabels 14) (record { values = fill 14 0 (holding 240 0 .values) ++ (18 ∷ 0 ∷ []); labels = holding 240 0 .labels }) 0)
-    ∷ tells 18 (machine (fixedOf 12 60 11 0 2) (begin fifty) (relabels 14) (record { values = fill 14 0 (holding 240 0 .values) ++ (50 ∷ 0 ∷ []); labels = holding 240 0 .labels }) 0) 1 2 0
+    ∷ isWhole 18 (machine (fixedOf 12 60 11 0 2) (begin fifty) (relabels 14) (record { values = padded 14 0 (holding 240 0 .values) ++ (18 ∷ 0 ∷ []); labels = holding 240 0 .labels }) 0)
+    ∷ tells 18 (machine (fixedOf 12 60 11 0 2) (begin fifty) (relabels 14) (record { values = padded 14 0 (holding 240 0 .values) ++ (50 ∷ 0 ∷ []); labels = holding 240 0 .labels }) 0) 1 2 0
     -- outside with no gate, with gates that lead elsewhere, and with one that leads within
     ∷ isWhole 240 (precise 60 0 (twice 255) (stop ∷ []))
     ∷ tells 240 (precise 60 1 (twice 255) (stop ∷ [])) 2 0 0

@@ -21,7 +21,7 @@ use Rattle.model.specs.Step.{running, moved, entered, opened, ended, step}
 use Rattle.model.specs.Seen.{exists}
 use Rattle.model.specs.Release.{Releases, SameRelease}
 use Rattle.model.specs.Facts.{wordOf, stop}
-use Rattle.witnesses.specs.Witness.{each, samePair, sameCall, sameSight, fill, twice, fixedOf, begin}
+use Rattle.witnesses.specs.Witness.{each, samePair, sameCall, sameSight, padded, twice, fixedOf, begin}
 
 -- ---- the terms of the statement, as tests
 
@@ -100,8 +100,8 @@ standing f c h =
       control = c;
       registers =
           record {
-            values = fill 16 0 (0 ∷ h .value ∷ h .new ∷ h .other ∷ []);
-            labels = fill 16 lowest (lowest ∷ h .label ∷ lowest ∷ h .other ∷ []);
+            values = padded 16 0 (0 ∷ h .value ∷ h .new ∷ h .other ∷ []);
+            labels = padded 16 lowest (lowest ∷ h .label ∷ lowest ∷ h .other ∷ []);
           };
       memory =
           record {

@@ -153,10 +153,10 @@ pub record Counterexample (ℓ k : ℕ) (s t : State) (qs : List Invocation) (me
 -- ---- the machines
 
 -- A list filled up to n numbers.
-abbrev pub fill : ℕ → ℕ → List ℕ → List ℕ
-fill zero d xs = []
-fill (suc n) d [] = d ∷ fill n d []
-fill (suc n) d (x ∷ xs) = x ∷ fill n d xs
+abbrev pub padded : ℕ → ℕ → List ℕ → List ℕ
+padded zero d xs = []
+padded (suc n) d [] = d ∷ padded n d []
+padded (suc n) d (x ∷ xs) = x ∷ padded n d xs
 
 -- One label twice.
 abbrev pub twice : ℕ → Pair
@@ -195,7 +195,7 @@ begin q = record { pc = 0; pair = q; clock = 0; first = Empty; second = Empty; e
 abbrev pub holding : ℕ → ℕ → Bank
 holding ℓ secret =
     record {
-      values = fill 16 0 (0 ∷ 6 ∷ 255 ∷ 255 ∷ 6 ∷ secret ∷ 0 ∷ 0 ∷ 0 ∷ 10 ∷ 77 ∷ 240 ∷ 51 ∷ 2 ∷ []);
+      values = padded 16 0 (0 ∷ 6 ∷ 255 ∷ 255 ∷ 6 ∷ secret ∷ 0 ∷ 0 ∷ 0 ∷ 10 ∷ 77 ∷ 240 ∷ 51 ∷ 2 ∷ []);
       labels = replicate 5 lowest ++ (255 ∷ 255 ∷ 255 ∷ ℓ ∷ replicate 6 lowest) ++ (255 ∷ []);
     }
 
@@ -208,7 +208,7 @@ machine f c program registers extra =
       control = c;
       registers = registers;
       memory =
-          record { values = fill (f .size + extra) 0 program; labels = fill (f .size + extra + extra) 255 (replicate 11 lowest) };
+          record { values = padded (f .size + extra) 0 program; labels = padded (f .size + extra + extra) 255 (replicate 11 lowest) };
     }
 
 -- ---- the calls

@@ -2,6 +2,7 @@
 -- Assumes nothing.
 use borrow.Author.Needs.{needs}
 use borrow.Author.Tests.{lt-ltb, le-ltb}
+use Rattle.labels.specs.Label.{labelCount}
 use Rattle.arguments.proofs.label_argument.Statement.{statement}
 use Rattle.arguments.proofs.label_argument.Tie as tie
 
@@ -28,12 +29,12 @@ cast-t6 c = search needs
 returns-2 : tie.Need-returns-2
 returns-2 c =
     let read = c .before .before .before .before .number-argument .ensures in
-    (read .0, rw (← read .1, c .before .before .value .given .1, lt-ltb _ 256 (c .if1 .taken)))
+    (read .0, rw (← read .1, c .before .before .value .given .1, lt-ltb _ labelCount (c .if1 .taken)))
 
 returns-3 : tie.Need-returns-3
 returns-3 c =
     let read = c .before .before .before .before .number-argument .ensures in
-    (read .0, rw (← read .1, c .before .before .value .given .1, le-ltb _ 256 (c .if1 .left)))
+    (read .0, rw (← read .1, c .before .before .value .given .1, le-ltb _ labelCount (c .if1 .left)))
 
 pub label-argument-spec : {M : Type 1} → statement M
 label-argument-spec =

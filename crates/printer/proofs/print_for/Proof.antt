@@ -2,9 +2,8 @@
 -- Assumes nothing.
 use borrow.Author.Needs.{needs}
 use borrow.Author.Tests.{not-true, not-false}
-use Rattle.model.specs.Record.{Machine, Bank}
+use Rattle.model.specs.Record.{Machine, Bank, lent}
 use Rattle.machine.specs.Answered.{recordOf}
-use Rattle.model.specs.Record.{lent}
 use Rattle.printer.proofs.Answers.{ill-formed, short-memory, lent-whole, whole}
 use Rattle.printer.proofs.print_for.Statement.{statement}
 use Rattle.printer.proofs.print_for.Tie as tie
@@ -14,7 +13,7 @@ abbrev record-of : tie.Start → Machine
 record-of start = recordOf (start .args .machine)
 
 abbrev memory-of : tie.Start → Bank
-memory-of start = lent (start .args .words .now) (start .args .labels .now)
+memory-of start = lent (start .args .words .now) (start .args .marks .now)
 
 is-well-formed-requires : tie.Need-is-well-formed-requires
 is-well-formed-requires c κs = search needs

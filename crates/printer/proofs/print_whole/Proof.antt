@@ -18,7 +18,7 @@ record-of start = recordOf (start .args .machine)
 
 abbrev listing-of : tie.Start → List ℕ
 listing-of start =
-    listingFor (start .args .viewer) (stateWith (start .args .machine) (start .args .words .now) (start .args .labels .now))
+    listingFor (start .args .viewer) (stateWith (start .args .machine) (start .args .words .now) (start .args .marks .now))
 
 listing-length-requires : tie.Need-listing-length-requires
 listing-length-requires c κs = search needs

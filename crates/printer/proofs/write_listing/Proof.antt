@@ -17,7 +17,7 @@ use Rattle.printer.proofs.write_listing.Tie as tie
 
 -- The state that is listed.
 abbrev state : tie.Start → State
-state start = stateWith (start .args .machine) (start .args .words .now) (start .args .labels .now)
+state start = stateWith (start .args .machine) (start .args .words .now) (start .args .marks .now)
 
 -- There are sixteen registers, with a label each.
 marked : (start : tie.Start) → length (start .args .machine .labels) ≡ registerCount

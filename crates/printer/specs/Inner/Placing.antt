@@ -10,9 +10,9 @@ use Rattle.writer.specs.Inner.Wrote.{Wrote}
 use Rattle.machine.specs.declared.Machine as struct
 use Rattle.machine.specs.Answered.{recordOf}
 
--- The state of a machine with lent words and labels.
+-- The state of a machine with lent words and their labels, the marks.
 abbrev pub stateWith : struct.Machine → List ℕ → List ℕ → State
-stateWith m words labels = stateOf (recordOf m) (lent words labels)
+stateWith m words marks = stateOf (recordOf m) (lent words marks)
 
 -- There are so many entries, and no more than a machine has words.
 pub record Entries (values labels : List ℕ) (count : ℕ) : Type 0 where

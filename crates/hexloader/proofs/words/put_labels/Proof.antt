@@ -1,9 +1,10 @@
 -- `hexloader::words::put_labels` meets its contract: after k turns the first k labels are made.
 -- Assumes nothing.
-use Prim.Native.Nat.{_-_}
+use Prim.Native.Nat.{_-_, _<_}
 use native.Mathlib.Omega.{arith}
+use lib.ListN.{length}
 use Rattle.model.specs.HexLoad.{wordLabel}
-use Rattle.hexloader.proofs.Placing.{Placed, placed-none, placed-more, placed-end}
+use Rattle.hexloader.proofs.Placing.{Placed, placed-none, placed-more, placed-room, placed-end, bytes-within}
 use Rattle.hexloader.proofs.words.put_labels.Statement.{statement}
 use Rattle.hexloader.proofs.words.put_labels.Tie as tie
 
@@ -13,14 +14,19 @@ Inv-loop places label size labels₀ k₀ labels k = Placed (wordLabel label pla
 abbrev μ-loop : tie.MeasureT-loop
 μ-loop places label size labels₀ k₀ labels k = size - k
 
+-- There is a place for the next.
+room : (c : tie.After-label-at Inv-loop μ-loop) → (let loop = c .before .before .loop in loop .k < length (loop .labels))
+room c =
+    placed-room (c .before .before .loop .inv) (c .before .loop-test .taken) (c .before .before .before .before .before .pre .1)
+
 loop-holds : tie.Need-loop-holds Inv-loop μ-loop
 loop-holds c = placed-none _ _ _
 
 label-at-requires : tie.Need-label-at-requires Inv-loop μ-loop
-label-at-requires c κs = omega (arith, c .before .before .before .before .pre)
+label-at-requires c κs = bytes-within (c .loop-test .taken) (c .before .before .before .before .pre .0)
 
 slice-write-labels : tie.Need-slice-write-labels Inv-loop μ-loop
-slice-write-labels c = omega (arith, c .before .before .before .before .before .pre, c .before .before .loop .inv .whole)
+slice-write-labels c = room c
 
 add-k : tie.Need-add-k Inv-loop μ-loop
 add-k c = omega arith

@@ -1,9 +1,10 @@
 -- `hexloader::words::put_words` meets its contract: after k turns the first k words are made.
 -- Assumes nothing.
-use Prim.Native.Nat.{_-_}
+use Prim.Native.Nat.{_-_, _<_}
 use native.Mathlib.Omega.{arith}
+use lib.ListN.{length}
 use Rattle.model.specs.HexLoad.{wordAt}
-use Rattle.hexloader.proofs.Placing.{Placed, placed-none, placed-more, placed-end}
+use Rattle.hexloader.proofs.Placing.{Placed, placed-none, placed-more, placed-room, placed-end, bytes-within}
 use Rattle.hexloader.proofs.words.put_words.Statement.{statement}
 use Rattle.hexloader.proofs.words.put_words.Tie as tie
 
@@ -13,17 +14,22 @@ Inv-loop places size words₀ k₀ words k = Placed (wordAt places) words₀ wor
 abbrev μ-loop : tie.MeasureT-loop
 μ-loop places size words₀ k₀ words k = size - k
 
+-- There is a place for the next.
+room : (c : tie.After-word-at Inv-loop μ-loop) → (let loop = c .before .before .loop in loop .k < length (loop .words))
+room c =
+    placed-room (c .before .before .loop .inv) (c .before .loop-test .taken) (c .before .before .before .before .before .pre .1)
+
 loop-holds : tie.Need-loop-holds Inv-loop μ-loop
 loop-holds c = placed-none _ _ _
 
 word-at-requires : tie.Need-word-at-requires Inv-loop μ-loop
-word-at-requires c κs = omega (arith, c .before .before .before .before .pre)
+word-at-requires c κs = bytes-within (c .loop-test .taken) (c .before .before .before .before .pre .0)
 
 mul-words : tie.Need-mul-words Inv-loop μ-loop
-mul-words c = omega (arith, c .before .before .before .before .before .pre, c .before .before .loop .inv .whole)
+mul-words c = omega (arith, room c)
 
 slice-write-words : tie.Need-slice-write-words Inv-loop μ-loop
-slice-write-words c = omega (arith, c .before .before .before .before .before .pre, c .before .before .loop .inv .whole)
+slice-write-words c = room c
 
 add-k : tie.Need-add-k Inv-loop μ-loop
 add-k c = omega arith
