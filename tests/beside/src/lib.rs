@@ -30,6 +30,7 @@ pub mod program;
 pub mod random_records;
 pub mod releases;
 pub mod tally;
+pub mod trial;
 pub mod trials;
 pub mod verdict;
 pub mod views;

@@ -11,8 +11,10 @@ use crate::layout::at;
 use crate::library::Library;
 use crate::other::Other;
 use crate::tally::Tally;
+use crate::verdict::close;
 use interpreter::generator::random::Random;
 use interpreter::Label;
+use std::process::ExitCode;
 
 /// Differences are shown up to this number.
 const SHOWN: u64 = 5;
@@ -198,6 +200,14 @@ pub struct Trials {
 impl Trials {
     pub fn new(tally: Tally) -> Trials {
         Trials { tally, passed: 0, failed: 0 }
+    }
+
+    /// Prints the counts; a kind that was not met is a failure.
+    pub fn finish(self) -> ExitCode {
+        print!("{}", self.tally);
+        let unmet = self.tally.unmet();
+        println!("kinds never met: {unmet:?}");
+        close(self.passed, self.failed, unmet.len())
     }
 
     /// Makes a call of both. Gives what the library left.

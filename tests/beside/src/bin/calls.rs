@@ -18,7 +18,6 @@ use beside::other::Other;
 use beside::random_records::{change, gates_of, GATES};
 use beside::tally::Tally;
 use beside::trials::{one_of_each, Call, Due, Trials, LENDINGS, NAMES};
-use beside::verdict::close;
 use interpreter::generator::random::Random;
 use std::env;
 use std::process::ExitCode;
@@ -56,10 +55,7 @@ fn main() -> ExitCode {
     (0..bases).for_each(|_| try_base(&mut trials, &mut random));
     (0..10 * bases as usize).for_each(|turn| try_load(&mut trials, &mut random, turn));
     (0..4).for_each(|_| try_cabinet(&mut trials, &mut random, 60));
-    print!("{}", trials.tally);
-    let unmet = trials.tally.unmet();
-    println!("kinds never met: {unmet:?}");
-    close(trials.passed, trials.failed, unmet.len())
+    trials.finish()
 }
 
 /// Every way, for every call; every length of memory and of output; and every

@@ -8,7 +8,6 @@
 #![forbid(unsafe_code)]
 
 use beside::calls::Calls;
-use beside::library::Library;
 use beside::loads::{try_certify, CERTIFY};
 use beside::other::Other;
 use beside::pairs::certified::{broken_under, certificate_of, uncovered};
@@ -22,16 +21,11 @@ use beside::pairs::multiplies;
 use beside::pairs::provisos::{both, bounds, Bounds};
 use beside::pairs::trace::{trace, Trace};
 use beside::tally::Tally;
-use beside::trials::Trials;
-use beside::verdict::close;
+use beside::trial::{Trial, Words};
 use interpreter::certificate::cause;
 use interpreter::generator::random::Random;
 use interpreter::{Certificate, Label};
-use std::env;
 use std::process::ExitCode;
-
-/// Differences are shown up to this number.
-const SHOWN: u64 = 3;
 
 /// So many pairs are tried for one whose loaded state is no break.
 const TRIES: u32 = 3;
@@ -63,13 +57,6 @@ const EXPECTED: [&str; 9] = [
     "broken: pairs of which neither releases what both try to",
 ];
 
-/// The trial of all pairs and texts.
-struct Trial<'a> {
-    calls: &'a dyn Calls,
-    random: Random,
-    trials: Trials,
-}
-
 /// A pair that was tried: what its machines did, and the certificate.
 struct Tried {
     level: Label,
@@ -80,26 +67,17 @@ struct Tried {
 }
 
 fn main() -> ExitCode {
-    let words: Vec<String> = env::args().skip(1).collect();
-    let number = |at: usize| words.get(at).and_then(|word| word.parse().ok());
-    let is_library = words.get(2).is_none_or(|word| word != "interpreter");
-    let calls: &dyn Calls = if is_library { &Library } else { &Other };
-    let random = Random::new(number(0).unwrap_or(1));
-    let trials = Trials::new(Tally::expecting(expected(is_library)));
-    let mut trial = Trial { calls, random, trials };
-    let count = number(1).unwrap_or(6_000);
+    let words = Words::read();
+    let mut trial = Trial::expecting(&words, expected(words.is_library));
+    let count = words.count(6_000);
     for turn in 0..count {
-        trial.try_any();
-        if is_library {
-            trial.try_text(turn as usize);
+        try_any(&mut trial);
+        if words.is_library {
+            try_text(&mut trial, turn as usize);
         }
     }
-    (0..count / from_hex::EVERY).for_each(|_| trial.try_hex());
-    let Trials { tally, passed, failed } = trial.trials;
-    print!("{tally}");
-    let unmet = tally.unmet();
-    println!("kinds never met: {unmet:?}");
-    close(passed, failed, unmet.len())
+    (0..count / from_hex::EVERY).for_each(|_| try_hex(&mut trial));
+    trial.trials.finish()
 }
 
 /// All that must come up: of texts only where the library is tried.
@@ -159,83 +137,70 @@ fn differ(cause: &str) -> String {
     format!("broken: pairs that differ from {cause} on")
 }
 
-impl Trial<'_> {
-    /// The library and the interpreter on one text.
-    fn try_text(&mut self, turn: usize) {
-        if let Some(cause) = try_certify(&mut self.trials, &mut self.random, turn) {
-            self.trials.tally.count(&format!("certify, {}", name_of(cause)));
-        }
+/// The library and the interpreter on one text.
+fn try_text(trial: &mut Trial, turn: usize) {
+    if let Some(cause) = try_certify(&mut trial.trials, &mut trial.random, turn) {
+        trial.trials.tally.count(&format!("certify, {}", name_of(cause)));
     }
+}
 
-    fn try_any(&mut self) {
-        let mut pair = choose(&mut self.random);
-        let is_barred = self.random.chance(25) && bar_attempt(&mut pair);
-        self.trials.tally.count_if(is_barred, "pairs of which the limit bars an attempt");
-        let images = pair.texts();
-        self.try_pair(pair, images);
+fn try_any(trial: &mut Trial) {
+    let mut pair = choose(&mut trial.random);
+    let is_barred = trial.random.chance(25) && bar_attempt(&mut pair);
+    trial.trials.tally.count_if(is_barred, "pairs of which the limit bars an attempt");
+    let images = pair.texts();
+    try_pair(trial, pair, images);
+}
+
+/// A pair loaded from HEX, certified as the texts of the same images.
+fn try_hex(trial: &mut Trial) {
+    let made = HexPair::make(&mut trial.random);
+    made.kinds().iter().for_each(|kind| trial.trials.tally.count(kind));
+    try_pair(trial, made.pair, made.images);
+}
+
+fn try_pair(trial: &mut Trial, pair: Pair, images: [Image; 2]) {
+    let outcome = check(trial, &pair, images);
+    trial.judge(outcome, |what| pair.show(what));
+}
+
+/// The certificate of a pair: that of the one, which the other must have too,
+/// and which is the interpreter's.
+fn certificate(trial: &mut Trial, pair: &Pair) -> Result<Certificate, String> {
+    let Pair { level, one, other } = pair;
+    let size = one.words.len();
+    let mut of = |calls: &dyn Calls, text: &[u8]| {
+        certificate_of(calls, &mut trial.random, *level, text, size)
+    };
+    let certificate = of(trial.calls, &one.text())?;
+    let others = [of(trial.calls, &other.text())?, of(&Other, &one.text())?];
+    if others != [certificate; 2] {
+        return Err(format!("{certificate:?}; of the other, and by the interpreter: {others:?}"));
     }
+    Ok(certificate)
+}
 
-    /// A pair loaded from HEX, certified as the texts of the same images.
-    fn try_hex(&mut self) {
-        let made = HexPair::make(&mut self.random);
-        made.kinds().iter().for_each(|kind| self.trials.tally.count(kind));
-        self.try_pair(made.pair, made.images);
+/// What a certificate promises of one pair: below the tick of the break both
+/// meet the provisos, and they are alike where both have come.
+fn check(trial: &mut Trial, pair: &Pair, images: [Image; 2]) -> Result<(), String> {
+    let certificate = certificate(trial, pair)?;
+    let (level, size) = (&pair.level, pair.one.words.len());
+    let (calls, random, tally) = (trial.calls, &mut trial.random, &mut trial.trials.tally);
+    let one = trace(calls, random, tally, &images[0], size)?;
+    let other = trace(calls, random, tally, &images[1], size)?;
+    let bounds = [bounds(*level, &one), bounds(*level, &other)];
+    if let Some(tick) = broken_under(certificate, both(bounds[0], bounds[1])) {
+        return Err(format!("{certificate:?}, and a proviso broken at tick {tick}"));
     }
-
-    fn try_pair(&mut self, pair: Pair, images: [Image; 2]) {
-        match self.check(&pair, images) {
-            Ok(()) => self.trials.passed += 1,
-            Err(what) => {
-                self.trials.failed += 1;
-                if self.trials.failed <= SHOWN {
-                    let Pair { level, one, other } = pair;
-                    println!("at label {}: {what}", level.0);
-                    println!("{}\nand\n{}", one.lines().join("\n"), other.lines().join("\n"));
-                }
-            }
-        }
-    }
-
-    /// The certificate of a pair: that of the one, which the other must have too,
-    /// and which is the interpreter's.
-    fn certificate(&mut self, pair: &Pair) -> Result<Certificate, String> {
-        let Pair { level, one, other } = pair;
-        let size = one.words.len();
-        let mut of = |calls: &dyn Calls, text: &[u8]| {
-            certificate_of(calls, &mut self.random, *level, text, size)
-        };
-        let certificate = of(self.calls, &one.text())?;
-        let others = [of(self.calls, &other.text())?, of(&Other, &one.text())?];
-        if others != [certificate; 2] {
-            return Err(format!(
-                "{certificate:?}; of the other, and by the interpreter: {others:?}"
-            ));
-        }
-        Ok(certificate)
-    }
-
-    /// What a certificate promises of one pair: below the tick of the break both
-    /// meet the provisos, and they are alike where both have come.
-    fn check(&mut self, pair: &Pair, images: [Image; 2]) -> Result<(), String> {
-        let certificate = self.certificate(pair)?;
-        let (level, size) = (&pair.level, pair.one.words.len());
-        let (calls, random, tally) = (self.calls, &mut self.random, &mut self.trials.tally);
-        let one = trace(calls, random, tally, &images[0], size)?;
-        let other = trace(calls, random, tally, &images[1], size)?;
-        let bounds = [bounds(*level, &one), bounds(*level, &other)];
-        if let Some(tick) = broken_under(certificate, both(bounds[0], bounds[1])) {
-            return Err(format!("{certificate:?}, and a proviso broken at tick {tick}"));
-        }
-        let reached = unreached(&one, &other);
-        let bound = uncovered(certificate).unwrap_or(reached).min(reached);
-        let compared = compare(*level, &one, &other, bound);
-        tally.add("ticks compared", compared.ticks);
-        let tried = Tried { level: *level, certificate, one, other, bounds };
-        tried.count(tally, bound, reached);
-        match compared.differs {
-            Some((tick, what)) => Err(format!("{certificate:?}, and not alike at {tick}, {what}")),
-            None => Ok(()),
-        }
+    let reached = unreached(&one, &other);
+    let bound = uncovered(certificate).unwrap_or(reached).min(reached);
+    let compared = compare(*level, &one, &other, bound);
+    tally.add("ticks compared", compared.ticks);
+    let tried = Tried { level: *level, certificate, one, other, bounds };
+    tried.count(tally, bound, reached);
+    match compared.differs {
+        Some((tick, what)) => Err(format!("{certificate:?}, and not alike at {tick}, {what}")),
+        None => Ok(()),
     }
 }
 

@@ -9,7 +9,6 @@ use beside::hex_loads::{expected, HexTrial, Source};
 use beside::program::run;
 use beside::tally::Tally;
 use beside::trials::Trials;
-use beside::verdict::close;
 use interpreter::fire_hex;
 use interpreter::generator::hex::HexImage;
 use interpreter::generator::random::Random;
@@ -51,11 +50,7 @@ fn main() -> ExitCode {
         (0..LOADS).for_each(|_| trial.try_load(&mut trials, &mut random));
         program.try_listing(&mut trials, &trial);
     }
-    let Trials { tally, passed, failed } = trials;
-    print!("{tally}");
-    let unmet = tally.unmet();
-    println!("kinds never met: {unmet:?}");
-    close(passed, failed, unmet.len())
+    trials.finish()
 }
 
 /// The name under which a listing or an X line is counted.

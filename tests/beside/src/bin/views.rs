@@ -10,7 +10,6 @@ use beside::fired::Fired;
 use beside::long_views::{self, try_loops};
 use beside::tally::Tally;
 use beside::trials::Trials;
-use beside::verdict::close;
 use beside::views::{self, try_damaged, try_image};
 use interpreter::generator::random::Random;
 use std::env;
@@ -31,9 +30,5 @@ fn main() -> ExitCode {
         try_damaged(&mut trials, &mut random, turn);
     }
     try_loops(&mut trials, &mut random);
-    let Trials { tally, passed, failed } = trials;
-    print!("{tally}");
-    let unmet = tally.unmet();
-    println!("kinds never met: {unmet:?}");
-    close(passed, failed, unmet.len())
+    trials.finish()
 }

@@ -42,6 +42,13 @@ impl Pair {
         Pair { level, one, other }
     }
 
+    /// Prints what is wrong with it, and both images.
+    pub fn show(&self, what: &str) {
+        let Pair { level, one, other } = self;
+        println!("at label {}: {what}", level.0);
+        println!("{}\nand\n{}", one.lines().join("\n"), other.lines().join("\n"));
+    }
+
     /// What its machines are loaded from where nothing else is said.
     pub fn texts(&self) -> [Image; 2] {
         [&self.one, &self.other].map(|draft| Image::Text(draft.text()))
