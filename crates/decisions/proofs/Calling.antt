@@ -1,36 +1,44 @@
--- Laws about the state at a decision: what its newest call says, and what values that pass for labels are.
+-- Laws about the state at a decision: its newest call, values that pass for labels, and numbers of gates.
 -- Assumes nothing.
 use Prim.Native.Nat.{ℕ, _≤_, _<_}
 use mathlib.Core.Path.{_≡_, sym, ap, _∙_}
-use mathlib.Core.Logic.{⊎-elim}
-use mathlib.Core.Bool.{Bool, true, false, _&&_}
-use mathlib.Core.List.{List}
+use mathlib.Core.Bool.{Bool, true, _&&_}
+use mathlib.Core.List.{List, map}
 use native.Mathlib.Omega.{arith}
-use lib.Dec.{ltb}
-use borrow.Author.Tests.{ltb-true, lt-ltb}
+use lib.ListN.{length, getD, length-map, List·getD-eq-default}
+use borrow.Author.Tests.{ltb-true, eqb-true}
 use Rattle.labels.specs.Label.{labelCount, flows, validPair}
+use Rattle.model.specs.declared.CallGate.{CallGate}
 use Rattle.model.specs.declared.Fixed.{Fixed}
-use Rattle.model.specs.Record.{stateFrom, isUpcall, endTickOf, inUpcall}
+use Rattle.model.specs.Record.{stateFrom, isGate, isUpcall, pairOf, endTickOf, inUpcall}
+use Rattle.model.specs.WellFormed.{noGate}
 use Rattle.model.specs.Ops.{isLabel}
 use Rattle.model.specs.Step.{endTick}
-use Rattle.model.proofs.Truth.{either, and-iff}
+use Rattle.model.proofs.Truth.{and-iff}
+use Rattle.parts.specs.declared.live.Frame.{Frame}
 use Rattle.parts.specs.declared.live.Live.{Live}
-use Rattle.parts.specs.Live.{callOf, controlOf, Stacked}
-use Rattle.parts.proofs.Frames.{stacked-newest}
+use Rattle.parts.specs.Live.{callOf, controlOf}
+use Rattle.parts.proofs.Frames.{holds-gate, holds-upcall, gate-by-kind, upcall-by-kind, newest-is}
 
 -- ---- the newest call
 
-module _ {live : Live} (h : Stacked live) where
+module _ (live : Live) where
   -- It is in an upcall where the newest frame holds one.
   pub in-upcall : inUpcall (controlOf live) ≡ isUpcall (callOf (live .newest))
   unfolding inUpcall
-  in-upcall = ap isUpcall (stacked-newest h)
+  in-upcall = ap isUpcall (newest-is live)
 
-  -- The end tick is that of the newest frame.
-  pub end-tick : (fixed : Fixed) (values labels words marks : List ℕ)
+  -- Where the newest frame holds an upcall, the end tick is the frame's.
+  pub end-tick : isUpcall (callOf (live .newest)) ≡ true → (fixed : Fixed) (values labels words marks : List ℕ)
       → endTick (stateFrom fixed (controlOf live) values labels words marks) ≡ live .newest .end
   unfolding endTick
-  end-tick fixed values labels words marks = ap endTickOf (stacked-newest h) ∙ h .newest .end
+  end-tick u fixed values labels words marks =
+      let f = live .newest in
+      ap endTickOf (newest-is live ∙ holds-upcall f (ltb-true 1 (f .kind) (upcall-by-kind f ∙ u)))
+
+-- A frame that holds a gate call has the pair that is kept.
+pub kept-pair : (f : Frame) → isGate (callOf f) ≡ true → pairOf (callOf f) ≡ f .pair
+kept-pair f g = ap pairOf (holds-gate f (eqb-true (f .kind) 1 (gate-by-kind f ∙ g)))
 
 -- ---- labels in registers
 
@@ -59,12 +67,9 @@ pair-below x y lb lc p e t = (is-below x (both .0), is-below y (both .1))
 
 -- ---- numbers of gates
 
--- Below a number that is at most k, a test against k changes nothing.
-pub below-both : (x n k : ℕ) → n ≤ k → (ltb x n && ltb x k) ≡ ltb x n
-below-both x n k h =
-    ⊎-elim (λ (e : ltb x n ≡ true). let l = ltb-true x n e in rw (e, lt-ltb x k (omega (arith, l, h))))
-    (λ (e : ltb x n ≡ false). rw e) (either (ltb x n))
-
--- What passes both tests is below k.
-pub below-last : (x n k : ℕ) {i : ℕ} → i ≡ x → (ltb x n && ltb x k) ≡ true → i < k
-below-last x n k q e = let below = ltb-true x k (and-iff (ltb x n) (ltb x k) .0 e .1) in omega (arith, q, below)
+-- Behind the last gate there is none. How many there are is known of the gates as they are stored.
+pub no-gate : {A : Type 0} (stored : CallGate → A) (gates : List CallGate) (n k : ℕ) → length (map stored gates) ≡ n → n ≤ k
+    → noGate ≡ getD gates k noGate
+no-gate stored gates n k e h =
+    let beyond : length gates ≤ k = omega (arith, length-map gates stored) in
+    sym (List·getD-eq-default gates noGate beyond)

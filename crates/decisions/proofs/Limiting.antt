@@ -3,10 +3,10 @@
 use Prim.Native.Nat.{ℕ, _+_, _≤_, _<_}
 use mathlib.Core.Path.{_≡_, refl, sym, _∙_}
 use mathlib.Core.Logic.{⊎-elim}
-use mathlib.Core.Bool.{Bool, true, false, _&&_, _||_, cond}
+use mathlib.Core.Bool.{Bool, true, false, not, _&&_, _||_, cond}
 use native.Mathlib.Omega.{arith}
 use lib.Dec.{ltb, eqb}
-use borrow.Author.Tests.{ltb-true, ltb-false, lt-ltb, le-ltb, eq-eqb, ne-eqb}
+use borrow.Author.Tests.{ltb-true, ltb-false, lt-ltb, le-ltb, eqb-true, eqb-false, eq-eqb, ne-eqb, not-true}
 use Rattle.model.specs.Record.{State}
 use Rattle.model.specs.Step as model
 use Rattle.model.specs.Step.{finish, beyondLimit, inLimit}
@@ -53,14 +53,13 @@ module _ (s : State) where
 -- ---- a decision by its case
 
 module _ {d : Decision} {live : Live} {limit : ℕ} where
-  -- The clock is at the limit, if it isn't past it.
-  limited-at : (live .clock ≤ limit → live .clock ≡ limit) → Limited d live limit Spend
-  limited-at q =
-      record { is = λ h fixed values labels words marks l k y. spent-at _ _ (q k ∙ sym l); applies = λ y. tt }
+  -- The clock is at the limit.
+  limited-at : live .clock ≡ limit → Limited d live limit Spend
+  limited-at q = record { is = λ y fixed values labels words marks l. spent-at _ _ (q ∙ sym l); applies = λ y f. tt }
 
   -- Spent time stays so.
   pub limited-spend : d ≡ Spend → Limited d live limit Spend
-  limited-spend q = record { is = λ h fixed values labels words marks l k y. rw q (spent _); applies = λ y. tt }
+  limited-spend q = record { is = λ y fixed values labels words marks l. rw q (spent _); applies = λ y f. tt }
 
   -- A stall below the limit.
   pub limited-stall : {why : ℕ} → live .clock < limit → d ≡ Stall why → Limited d live limit (Stall why)
@@ -68,34 +67,50 @@ module _ {d : Decision} {live : Live} {limit : ℕ} where
   limited-stall {why} n q =
       record {
         is =
-            λ h fixed values labels words marks l k y.
-            rw q (stands _ (model.stall why) (λ x. omega (arith, n, l, x)) (omega (arith, l, k)));
-        applies = λ y. tt;
+            λ y fixed values labels words marks l.
+            rw q (stands _ (model.stall why) (λ x. omega (arith, n, l, x)) (omega (arith, l, n)));
+        applies = λ y f. tt;
       }
 
-  -- Where it would stall or close, but the limit is reached.
-  pub limited-reached : limit ≤ live .clock → Limited d live limit Spend
-  limited-reached n = limited-at (λ k. omega (arith, k, n))
+  -- A stall at the limit, or past it.
+  pub limited-reached : {why : ℕ} → limit ≤ live .clock → d ≡ Stall why → Limited d live limit Spend
+  unfolding finish
+  limited-reached {why} n q =
+      ⊎-elim
+      (λ (x : ltb limit (live .clock) ≡ true).
+      let past = ltb-true limit (live .clock) x in
+      record {
+        is = λ y fixed values labels words marks l. rw q (spent-over _ (model.stall why) (omega (arith, past, l)));
+        applies = λ y f. tt;
+      })
+      (λ (x : ltb limit (live .clock) ≡ false). let most = ltb-false limit (live .clock) x in limited-at (omega (arith, n, most)))
+      (either (ltb limit (live .clock)))
 
   -- A close by the limit.
-  pub limited-close : {cause : ℕ} → (ltb (live .clock) limit && ltb (live .newest .end) limit) ≡ true → d ≡ Close cause
+  pub limited-close : {cause : ℕ} → (not (eqb (live .clock) limit) && ltb (live .newest .end) limit) ≡ true → d ≡ Close cause
       → Limited d live limit (Close cause)
   unfolding finish
   limited-close {cause} b q =
       record {
         is =
-            λ h fixed values labels words marks l k y.
+            λ y fixed values labels words marks l.
             rw q
-            (stands _ (model.close cause) (λ x. omega (arith, early, l, x))
-            (omega (arith, before, l, end-tick h fixed values labels words marks)));
-        applies = λ y. ((rw q at y), before);
+            (stands _ (model.close cause) (λ x. off (x ∙ l))
+            (omega (arith, before, l, end-tick live (closes y) fixed values labels words marks)));
+        applies = λ y f. (closes y, before);
       }
     where
-      early : live .clock < limit
-      early = ltb-true (live .clock) limit (and-iff (ltb (live .clock) limit) (ltb (live .newest .end) limit) .0 b .0)
+      both : (not (eqb (live .clock) limit) ≡ true) × (ltb (live .newest .end) limit ≡ true)
+      both = and-iff (not (eqb (live .clock) limit)) (ltb (live .newest .end) limit) .0 b
+
+      off : live .clock ≡ limit → ⊥
+      off = eqb-false (live .clock) limit (not-true (eqb (live .clock) limit) (both .0))
 
       before : live .newest .end < limit
-      before = ltb-true (live .newest .end) limit (and-iff (ltb (live .clock) limit) (ltb (live .newest .end) limit) .0 b .1)
+      before = ltb-true (live .newest .end) limit (both .1)
+
+      closes : Ready d live → Ready (Close cause) live
+      closes y = rw q at y
 
   -- A close that comes too late.
   limited-past : {cause : ℕ} → limit ≤ live .newest .end → d ≡ Close cause → Limited d live limit Spend
@@ -103,18 +118,18 @@ module _ {d : Decision} {live : Live} {limit : ℕ} where
   limited-past {cause} n q =
       record {
         is =
-            λ h fixed values labels words marks l k y.
-            rw q (spent-over _ (model.close cause) (omega (arith, n, l, end-tick h fixed values labels words marks)));
-        applies = λ y. tt;
+            λ y fixed values labels words marks l.
+            rw q (spent-over _ (model.close cause) (omega (arith, n, l, end-tick live (rw q at y) fixed values labels words marks)));
+        applies = λ y f. tt;
       }
 
   -- A close that comes too late, or at the limit.
-  pub limited-barred : {cause : ℕ} → (ltb (live .clock) limit && ltb (live .newest .end) limit) ≡ false → d ≡ Close cause
+  pub limited-barred : {cause : ℕ} → (not (eqb (live .clock) limit) && ltb (live .newest .end) limit) ≡ false → d ≡ Close cause
       → Limited d live limit Spend
   limited-barred b q =
-      ⊎-elim (λ (x : ltb (live .clock) limit ≡ true). limited-past (ltb-false (live .newest .end) limit (rw x at b)) q)
-      (λ (x : ltb (live .clock) limit ≡ false). limited-reached (ltb-false (live .clock) limit x))
-      (either (ltb (live .clock) limit))
+      ⊎-elim (λ (x : eqb (live .clock) limit ≡ true). limited-at (eqb-true (live .clock) limit x))
+      (λ (x : eqb (live .clock) limit ≡ false). limited-past (ltb-false (live .newest .end) limit (rw x at b)) q)
+      (either (eqb (live .clock) limit))
 
   -- A change that is carried out by the limit.
   pub limited-carry : {ticks : ℕ} {change : Change} → live .clock + ticks ≤ limit → d ≡ Carry ticks change
@@ -123,10 +138,10 @@ module _ {d : Decision} {live : Live} {limit : ℕ} where
   limited-carry {ticks} {change} n q =
       record {
         is =
-            λ h fixed values labels words marks l k y.
+            λ y fixed values labels words marks l.
             rw q
             (stands _ (model.carry ticks (changeOf change)) (λ x. omega (arith, ready y .0, n, l, x)) (omega (arith, n, l)));
-        applies = λ y. (ready y .0, n, ready y .1, ready y .2);
+        applies = λ y f. (ready y .0, n, ready y .1, (rw q at f));
       }
     where
       ready : Ready d live → Ready (Carry ticks change) live
@@ -138,6 +153,6 @@ module _ {d : Decision} {live : Live} {limit : ℕ} where
   unfolding finish
   limited-over {ticks} {change} n q =
       record {
-        is = λ h fixed values labels words marks l k y. rw q (spent-over _ (model.carry ticks (changeOf change)) (omega (arith, n, l)));
-        applies = λ y. tt;
+        is = λ y fixed values labels words marks l. rw q (spent-over _ (model.carry ticks (changeOf change)) (omega (arith, n, l)));
+        applies = λ y f. tt;
       }

@@ -3,6 +3,7 @@ use crate::rows::label_of;
 use crate::rows::new_pair_allowed;
 use labels::Bits;
 use labels::Label;
+use model::CallGate;
 use model::Fixed;
 use model::Pair;
 use model::numbers::MOST_GATES;
@@ -17,13 +18,15 @@ use parts::word::b_of;
 use parts::word::c_of;
 use parts::word::d_of;
 use parts::word::index;
-ghost use Prim.Native.Nat.{ℕ, _≤_, _<_};
+ghost use Prim.Native.Nat.{ℕ, _<_};
 ghost use mathlib.Core.Path.{_≡_};
 ghost use mathlib.Core.Bool.{_&&_};
 ghost use mathlib.Core.List.{List};
+ghost use lib.ListN.{getD};
 ghost use Rattle.labels.specs.Label.{flows, join};
 ghost use Rattle.model.specs.declared.Fixed.{Fixed};
-ghost use Rattle.model.specs.Numbers.{mostGates, valueCount};
+ghost use Rattle.model.specs.Numbers.{valueCount};
+ghost use Rattle.model.specs.WellFormed.{noGate};
 ghost use Rattle.model.specs.Word.{upcall, gateCall, gateReturn};
 ghost use Rattle.decisions.specs.Inner.Rows.{Changes};
 
@@ -84,6 +87,19 @@ fn may_enter(pair: Pair, lb: Bits, p: Bits) -> bool
         & Label(lb).flows_to(Label(p))
 }
 
+// The gate of a number. Behind the last there is none.
+fn gate_at(fixed: Fixed, number: u32) -> CallGate
+    ensures { λ r. ⌜ r ≡ getD (fixed .gates) number noGate ⌝ }
+{
+    let gates = fixed.gates;
+    if number < MOST_GATES {
+        let i = index(number);
+        return gates[i];
+    }
+    let pair = Pair { pc: 0, timing: 0 };
+    CallGate { entry: 0, pair }
+}
+
 // Op 20.
 pub(in crate) fn call_gate(
     w: u32,
@@ -92,16 +108,14 @@ pub(in crate) fn call_gate(
     values: &[u32; REGISTER_COUNT],
     labels: &[Bits; REGISTER_COUNT],
 ) -> Change
-    ensures { λ r. ⌜ (fixed .count ≤ mostGates → Changes gateCall w 4 fixed live (now (values .entry)) (now (labels .entry)) r) ⌝ }
+    ensures { λ r. ⌜ Changes gateCall w 4 fixed live (now (values .entry)) (now (labels .entry)) r ⌝ }
 {
     let own = live.pair;
-    let gates = fixed.gates;
     let b = b_of(w);
     let rb = values[b];
     if is_empty(live.newest) {
-        if (rb < fixed.count) & (rb < MOST_GATES) {
-            let i = index(rb);
-            let gate = gates[i];
+        if rb < fixed.count {
+            let gate = gate_at(fixed, rb);
             let pair = gate.pair;
             if may_enter(pair, labels[b], own.pc) {
                 return Change::OpenGate(gate.entry, pair);

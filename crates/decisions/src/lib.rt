@@ -8,7 +8,13 @@ use calls::return_gate;
 use calls::upcall;
 use labels::Bits;
 use model::Fixed;
+use model::numbers::BY_FAILURE;
+use model::numbers::BY_ITS_END;
+use model::numbers::BY_SPENT_TIME;
+use model::numbers::OUTSIDE_MEMORY;
 use model::numbers::REGISTER_COUNT;
+use model::numbers::UNKNOWN_OP;
+use model::numbers::UNREADABLE;
 use parts::live::Live;
 use parts::live::is_upcall;
 use parts::stages::Change;
@@ -18,17 +24,19 @@ use parts::word::op_of;
 use rows::Rule;
 use rows::set_label;
 use rows::set_pair;
-ghost use Prim.Native.Nat.{ℕ, _+_, _^_, _≤_, _<_};
+ghost use Prim.Native.Nat.{ℕ};
 ghost use mathlib.Core.Path.{_≡_};
-ghost use mathlib.Core.Bool.{false};
 ghost use mathlib.Core.List.{List};
 ghost use Rattle.model.specs.declared.Fixed.{Fixed};
-ghost use Rattle.model.specs.Numbers.{mostGates};
-ghost use Rattle.model.specs.Word.{endUpcall, halt, opField, decode};
-ghost use Rattle.model.specs.Step.{fault, fetched, known, plan};
-ghost use Rattle.parts.specs.Stages.{lateOf, fetchesCommon};
-ghost use Rattle.decisions.specs.Decisions.{Decided};
-ghost use Rattle.decisions.specs.Inner.Rows.{InTime, Decides, Planned, Limited};
+ghost use Rattle.model.specs.Record.{stateFrom};
+ghost use Rattle.model.specs.Word.{endUpcall, halt};
+ghost use Rattle.model.specs.Step.{fault, fetched, plan};
+ghost use Rattle.parts.specs.declared.stages.Reason.{Reason};
+ghost use Rattle.parts.specs.declared.stages.Reason.the-variants.{Rest};
+ghost use Rattle.parts.specs.Live.{controlOf};
+ghost use Rattle.parts.specs.Stages.{decisionOf, lateOf, planAt, planFor, Left, Applies};
+ghost use Rattle.decisions.specs.Decisions.{decided};
+ghost use Rattle.decisions.specs.Inner.Rows.{InTime, Decides, Limited};
 
 // A change in so many ticks, unless it finishes past the end tick of the upcall.
 fn in_time(live: Live, ticks: u32, change: Change) -> Decision
@@ -37,7 +45,7 @@ fn in_time(live: Live, ticks: u32, change: Change) -> Decision
     let call = live.newest;
     if is_upcall(call) {
         if call.end < live.clock as u64 + ticks as u64 {
-            return Decision::Close(2);
+            return Decision::Close(BY_SPENT_TIME);
         }
     }
     Decision::Carry(ticks, change)
@@ -45,10 +53,10 @@ fn in_time(live: Live, ticks: u32, change: Change) -> Decision
 
 // A failed fetch.
 fn fault(live: Live, errorpc: u32, why: u8) -> Decision
-    ensures { λ r. ⌜ ((fixed : Fixed) (values labels : List ℕ) → fixed .errorpc ≡ errorpc → Decides (λ s. fault s why) fixed live values labels r) ⌝ }
+    ensures { λ r. ⌜ ((reason : Reason) (fixed : Fixed) (values labels : List ℕ) → fixed .errorpc ≡ errorpc → Decides reason (λ s. fault s why) fixed live values labels r) ⌝ }
 {
     if is_upcall(live.newest) {
-        return Decision::Close(3);
+        return Decision::Close(BY_FAILURE);
     }
     if live.pc == errorpc {
         return Decision::Stall(why);
@@ -58,10 +66,10 @@ fn fault(live: Live, errorpc: u32, why: u8) -> Decision
 
 // An op that would finish past the deadline.
 fn late(live: Live) -> Decision
-    ensures { λ r. ⌜ ((fixed : Fixed) (values labels : List ℕ) → Decides lateOf fixed live values labels r) ⌝ }
+    ensures { λ r. ⌜ ((reason : Reason) (fixed : Fixed) (values labels : List ℕ) → Decides reason lateOf fixed live values labels r) ⌝ }
 {
     if is_upcall(live.newest) {
-        Decision::Close(2)
+        Decision::Close(BY_SPENT_TIME)
     } else {
         Decision::Spend
     }
@@ -69,10 +77,10 @@ fn late(live: Live) -> Decision
 
 // Op 19.
 fn end_upcall(live: Live) -> Decision
-    ensures { λ r. ⌜ (live .pc + 1 < 2 ^ 32 → (w : ℕ) (fixed : Fixed) (values labels : List ℕ) → Decides (λ s. plan s (fetched w endUpcall)) fixed live values labels r) ⌝ }
+    ensures { λ r. ⌜ ((w : ℕ) (fixed : Fixed) (values labels : List ℕ) → Decides (Rest w) (λ s. plan s (fetched w endUpcall)) fixed live values labels r) ⌝ }
 {
     if is_upcall(live.newest) {
-        Decision::Close(1)
+        Decision::Close(BY_ITS_END)
     } else {
         Decision::Carry(1, Change::Pass)
     }
@@ -80,16 +88,16 @@ fn end_upcall(live: Live) -> Decision
 
 // Op 22.
 fn halt(live: Live) -> Decision
-    ensures { λ r. ⌜ ((w : ℕ) (fixed : Fixed) (values labels : List ℕ) → Decides (λ s. plan s (fetched w halt)) fixed live values labels r) ⌝ }
+    ensures { λ r. ⌜ ((w : ℕ) (fixed : Fixed) (values labels : List ℕ) → Decides (Rest w) (λ s. plan s (fetched w halt)) fixed live values labels r) ⌝ }
 {
     if is_upcall(live.newest) {
-        Decision::Close(3)
+        Decision::Close(BY_FAILURE)
     } else {
         Decision::Carry(1, Change::Stop)
     }
 }
 
-// The ops 15 to 22, and an unknown one.
+// The ops 15 to 22, and an unknown one. A common op, which the hot loop does, is unknown here.
 fn rest(
     w: u32,
     fixed: Fixed,
@@ -97,7 +105,7 @@ fn rest(
     values: &[u32; REGISTER_COUNT],
     labels: &[Bits; REGISTER_COUNT],
 ) -> Decision
-    ensures { λ r. ⌜ (fixed .count ≤ mostGates → live .pc + 1 < 2 ^ 32 → fetchesCommon (known w (decode (opField w))) ≡ false → Decides (λ s. plan s (known w (decode (opField w)))) fixed live (now (values .entry)) (now (labels .entry)) r) ⌝ }
+    ensures { λ r. ⌜ Decides (Rest w) (planAt w) fixed live (now (values .entry)) (now (labels .entry)) r ⌝ }
 {
     match op_of(w) {
         15 => in_time(live, 2, set_label(Rule::Raise, w, live, values, labels)),
@@ -108,7 +116,7 @@ fn rest(
         20 => in_time(live, 4, call_gate(w, fixed, live, values, labels)),
         21 => in_time(live, 4, return_gate(live)),
         22 => halt(live),
-        _ => fault(live, fixed.errorpc, 3),
+        _ => fault(live, fixed.errorpc, UNKNOWN_OP),
     }
 }
 
@@ -120,14 +128,14 @@ fn plan(
     values: &[u32; REGISTER_COUNT],
     labels: &[Bits; REGISTER_COUNT],
 ) -> Decision
-    ensures { λ r. ⌜ Planned reason fixed live (now (values .entry)) (now (labels .entry)) r ⌝ }
+    ensures { λ r. ⌜ Decides reason (planFor reason) fixed live (now (values .entry)) (now (labels .entry)) r ⌝ }
 {
     match reason {
         Reason::Out => Decision::Spend,
         Reason::Late => late(live),
-        Reason::Outside => fault(live, fixed.errorpc, 1),
-        Reason::Unreadable => fault(live, fixed.errorpc, 2),
-        Reason::Failed => Decision::Close(3),
+        Reason::Outside => fault(live, fixed.errorpc, OUTSIDE_MEMORY),
+        Reason::Unreadable => fault(live, fixed.errorpc, UNREADABLE),
+        Reason::Failed => fault(live, fixed.errorpc, UNKNOWN_OP),
         Reason::Rest(w) => rest(w, fixed, live, values, labels),
     }
 }
@@ -145,7 +153,7 @@ fn in_limit(decision: Decision, live: Live, limit: u32) -> Decision
         } else {
             Decision::Spend
         },
-        Decision::Close(cause) => if (clock < limit) & (call.end < limit as u64) {
+        Decision::Close(cause) => if (clock != limit) & (call.end < limit as u64) {
             Decision::Close(cause)
         } else {
             Decision::Spend
@@ -166,7 +174,7 @@ pub fn decide(
     values: &[u32; REGISTER_COUNT],
     labels: &[Bits; REGISTER_COUNT],
 ) -> Decision
-    ensures { λ r. ⌜ Decided reason fixed live (now (values .entry)) (now (labels .entry)) r ⌝ }
+    ensures { λ r. ⌜ ((words marks : List ℕ) → decisionOf r ≡ decided reason (stateFrom fixed (controlOf live) (now (values .entry)) (now (labels .entry)) words marks)) × (Left reason (live .pc) → Applies r live (fixed .limit)) ⌝ }
 {
     let decision = plan(reason, fixed, live, values, labels);
     in_limit(decision, live, fixed.limit)

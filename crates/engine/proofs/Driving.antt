@@ -16,14 +16,14 @@ use Rattle.model.specs.declared.Call.{Call}
 use Rattle.model.specs.declared.Call.the-variants.{Empty, Gate, Upcall}
 use Rattle.model.specs.Numbers.{mostWords, mostTicks, mostGates}
 use Rattle.model.specs.WellFormed.{lentWhole}
-use Rattle.model.specs.Record.{State, lent, valueAt, stateFrom, inUpcall, isUpcall, endTickOf, newest}
+use Rattle.model.specs.Record.{Bank, State, lent, valueAt, stateFrom, inUpcall, isUpcall, endTickOf, newest}
 use mathlib.Core.Option.{Option, none, some}
 use Rattle.model.specs.Word.{opField, decode, Op, immediate, arithmetic, load, store, branch, jump, readClock, setLabel, setPair, upcall, endUpcall, gateCall, gateReturn, halt}
 use Rattle.model.specs.Ops.{Write, table}
 use Rattle.model.specs.Step.{Decision as Decides, Fetched, failed, fetched, known, fetchAllowed, finish, finishesBy, fetch, moved, endTick, inLimit, running, decide, written, writeOf, causeAllowed, causeWrite, controlAfter, withControl, apply, step, stepsBy, runTo}
 use Rattle.model.proofs.Truth.{choice, either, clash, and-iff}
 use Rattle.model.proofs.Legal.{ticks-long}
-use Rattle.model.proofs.Ready.{whole-lengths}
+use Rattle.model.proofs.Ready.{whole-lengths, whole-lent}
 use Rattle.model.proofs.WellFormed.{step-fixed}
 use Rattle.model.proofs.Step.{step-clock, carried-clock, step-ended}
 use Rattle.model.proofs.RunTo.{late-stays, timely-goes, ended-stays}
@@ -35,20 +35,25 @@ use Rattle.parts.specs.declared.stages.Decision.{Decision}
 use Rattle.parts.specs.declared.stages.Decision.the-variants.{Spend, Stall, Close, Carry}
 use Rattle.parts.specs.Calls.{newestOf, nearer, deadlineOf}
 use Rattle.parts.specs.Live.{callOf, controlOf, Stacked, stacks, Lives}
-use Rattle.parts.specs.Stages.{isCommonOp, decisionOf, planFor, Left, Decidable, Applies}
-use Rattle.parts.proofs.Frames.{stacked-newest}
+use Rattle.parts.specs.Stages.{isCommonOp, decisionOf, planFor, Left, Applies}
+use Rattle.parts.proofs.Frames.{newest-is}
 use Rattle.sprint.specs.Skim.{isCommon, Skim, skim}
 use Rattle.sprint.specs.declared.Context.{Context}
 use Rattle.sprint.specs.declared.Pause.{Pause}
-use Rattle.sprint.specs.Sprint.{Mirrors, view, Timed, Overdue, Stopped, Paused, Ran, Sprinted, Timing}
-use Rattle.decisions.specs.Decisions.{Decided}
-use Rattle.transitions.specs.Transitions.{Timely, After, Wrote}
+use Rattle.sprint.specs.declared.Place.{Place}
+use Rattle.sprint.specs.Sprint.{Mirrors, stateWith, Timed, Overdue, Stopped, Paused, Ran, Sprinted}
+use Rattle.sprint.specs.Inner.Turns.{Timing}
+use Rattle.decisions.specs.Decisions.{decided}
+use Rattle.transitions.specs.Transitions as transitions
+use Rattle.transitions.specs.Transitions.{writtenBack}
+use Rattle.transitions.specs.Inner.Meaning.{Timely, After, Wrote}
+use Rattle.transitions.proofs.Applied as applied
 use Rattle.engine.specs.declared.Pace.{Pace}
 use Rattle.engine.specs.declared.Pace.the-variants.{Once, Onward, Stride}
 use Rattle.engine.specs.declared.Task.{Task}
 use Rattle.engine.specs.Stride.{fetchesRelabelling, ends, stride, runCount, strode}
 use Rattle.engine.specs.Advance.{isTimely, fitting, paced}
-use Rattle.engine.specs.Inner.Drive.{isOnce, isStride, tickOf, contextOf, Alone, relabelsAt, setsLabel, finishOf, Fit, Driven}
+use Rattle.engine.specs.Inner.Drive.{isOnce, isStride, tickOf, contextOf, Alone, relabelsAt, setsLabel, finishOf, InRanges, Driven}
 use Rattle.engine.proofs.Skimming.{skim-first, skim-behind, skim-stays, ended-uncommon, stopped-relabels, stride-ends, stride-goes, ends-first, ends-there}
 use Rattle.engine.proofs.Settling.{Common, common-of, Settles, settles, finish-in-limit, stopped-uncommon}
 
@@ -282,6 +287,11 @@ remains-start Stride s h = refl
 
 -- ---- one turn of the loop
 
+-- What is promised of a decision for a reason to stop.
+pub record Decided (reason : Reason) (fixed : Fixed) (live : Live) (values labels : List ℕ) (r : Decision) : Type 0 where
+  pub is : (words marks : List ℕ) → decisionOf r ≡ decided reason (stateFrom fixed (controlOf live) values labels words marks)
+  pub applies : Left reason (live .pc) → Applies r live (fixed .limit)
+
 -- With a tick left the hot loop paused for a reason.
 paused-stopped : (reason : Reason) (left deadline : ℕ) (s : State) → 0 < left → Paused reason left deadline s → Stopped reason deadline s
 paused-stopped Out left deadline s h e = absurd (omega (arith, h, e))
@@ -405,18 +415,18 @@ module _ {fixed : Fixed} {task : Task} {values₀ labels₀ words₀ marks : Lis
     left = deadline + 1 - live .clock
 
     -- What the hot loop is told of is this state.
-    seen-now : view now (contextOf (fixed .size) live deadline) (live .pc) (deadline + 1 - live .clock) values labels words marks ≡ now
+    seen-now : stateWith now (contextOf (fixed .size) live deadline) (live .pc) (deadline + 1 - live .clock) values labels words marks ≡ now
     seen-now =
         let z : deadline + 1 - (deadline + 1 - live .clock) ≡ live .clock = omega (arith, due .later) in
         ap (λ (c : ℕ). withControl now (moved (controlOf live) c (live .pc))) z
 
     end-now : endTick now ≡ live .newest .end
     unfolding endTick
-    end-now = ap endTickOf (stacked-newest (h .stacked)) ∙ h .stacked .newest .end
+    end-now = ap endTickOf (newest-is live) ∙ h .stacked .newest .end
 
     up-now : inUpcall (now .control) ≡ isUpcall (callOf (live .newest))
     unfolding inUpcall
-    up-now = ap isUpcall (stacked-newest (h .stacked))
+    up-now = ap isUpcall (newest-is live)
 
     tick-within : deadlineOf (isUpcall (callOf (live .newest))) (live .newest .end) tick
         ≤ deadlineOf (isUpcall (callOf (live .newest))) (live .newest .end) (fixed .limit)
@@ -447,10 +457,16 @@ module _ {fixed : Fixed} {task : Task} {values₀ labels₀ words₀ marks : Lis
           due = rw end-now (le-trans (due .near) tick-within);
         }
 
-    module _ {context : Context} (u : context ≡ contextOf (fixed .size) live deadline) {pause : Pause} {values′ words′ : List ℕ} (q₀ : Sprinted context (record { pc = live .pc; left = deadline + 1 - live .clock }) values turned words marks pause values′ words′) where
+    -- Where the hot loop starts.
+    abbrev start : Place
+    start = record { pc = live .pc; left = deadline + 1 - live .clock }
+
+    module _ {context : Context} (u : context ≡ contextOf (fixed .size) live deadline) {place : Place} (v : place ≡ record { pc = live .pc; left = deadline + 1 - live .clock }) {pause : Pause} {values′ words′ : List ℕ} (q₀ : Sprinted context place values turned words marks pause values′ words′) where
       -- It was told of this control.
-      q : Sprinted (contextOf (fixed .size) live deadline) (record { pc = live .pc; left = deadline + 1 - live .clock }) values turned words marks pause values′ words′
-      q = subst (λ (x : Context). Sprinted x (record { pc = live .pc; left = deadline + 1 - live .clock }) values turned words marks pause values′ words′) u q₀
+      q : Sprinted (contextOf (fixed .size) live deadline) start values turned words marks pause values′ words′
+      q =
+          subst (λ (x : Place). Sprinted (contextOf (fixed .size) live deadline) x values turned words marks pause values′ words′) v
+          (subst (λ (x : Context). Sprinted x place values turned words marks pause values′ words′) u q₀)
 
       -- The control where the hot loop has paused.
       abbrev paused : Live
@@ -464,7 +480,7 @@ module _ {fixed : Fixed} {task : Task} {values₀ labels₀ words₀ marks : Lis
       pub ran : Ran now there deadline (deadline + 1 - live .clock) (pause .place .left) (pause .reason)
       ran =
           subst (λ (s : State). Ran s there deadline (deadline + 1 - live .clock) (pause .place .left) (pause .reason)) seen-now
-          (q .ran (h .words-lent) (h .marks-lent) (omega arith) now labels (h .mirrors)
+          (q .ran (whole-lent (fixed .size) (lent words marks) (h .words-lent) (h .marks-lent)) (omega arith) now labels (h .mirrors)
           (subst (λ (s : State). Timed s (contextOf (fixed .size) live deadline)) (sym seen-now) timed))
 
       -- A tick is left there, and the clock has not passed the deadline.
@@ -506,11 +522,11 @@ module _ {fixed : Fixed} {task : Task} {values₀ labels₀ words₀ marks : Lis
 
       end-there : endTick there ≡ live .newest .end
       unfolding endTick
-      end-there = ap endTickOf (stacked-newest stacked-there) ∙ h .stacked .newest .end
+      end-there = ap endTickOf (newest-is paused) ∙ h .stacked .newest .end
 
       up-there : inUpcall (there .control) ≡ isUpcall (callOf (live .newest))
       unfolding inUpcall
-      up-there = ap isUpcall (stacked-newest stacked-there)
+      up-there = ap isUpcall (newest-is paused)
 
       -- Why it stopped.
       pub stopped : Stopped (pause .reason) deadline there
@@ -656,27 +672,17 @@ module _ {fixed : Fixed} {task : Task} {values₀ labels₀ words₀ marks : Lis
 
       -- ---- the step of what it stopped at
 
-      -- What a decision rests on holds there.
-      pub decidable : Decidable (pause .reason) fixed paused
-      decidable =
-          record {
-            stacked = stacked-there;
-            gates = h .gates;
-            clock = clock-limited;
-            left = left-there (pause .reason) stopped;
-            failed = failed-there (pause .reason) stopped;
-          }
+      -- Where it stopped at a word, there is a next pc.
+      next-there : Left (pause .reason) (paused .pc)
+      next-there = go (pause .reason) stopped
         where
-          left-there : (r : Reason) → Stopped r deadline there → Left r (paused .pc)
-          left-there Out s = tt
-          left-there Late s = tt
-          left-there Outside s = tt
-          left-there Unreadable s = tt
-          left-there Failed s = tt
-          left-there (Rest w) s = (s .op, omega (arith, s .within, h .size))
-
-          failed-there : (r : Reason) → Stopped r deadline there → r ≡ Failed → isUpcall (callOf (live .newest)) ≡ true
-          failed-there r s e = sym up-there ∙ (subst (λ (x : Reason). Stopped x deadline there) e s) .2
+          go : (r : Reason) → Stopped r deadline there → Left r (paused .pc)
+          go Out s = tt
+          go Late s = tt
+          go Outside s = tt
+          go Unreadable s = tt
+          go Failed s = tt
+          go (Rest w) s = omega (arith, s .within, h .size)
 
       module _ {live′ : Live} (mv : live′ ≡ paused) {decision : Decision} (d₀ : Decided (pause .reason) fixed live′ values′ labels decision) where
         d : Decided (pause .reason) fixed paused values′ labels decision
@@ -684,7 +690,7 @@ module _ {fixed : Fixed} {task : Task} {values₀ labels₀ words₀ marks : Lis
 
         -- What was decided can be applied.
         pub applies-there : Applies decision live′ (fixed .limit)
-        applies-there = subst (λ (l : Live). Applies decision l (fixed .limit)) (sym mv) (d .applies decidable)
+        applies-there = subst (λ (l : Live). Applies decision l (fixed .limit)) (sym mv) (d .applies next-there)
 
         -- When it finishes, as the code asks it.
         barred-as : {tick′ : ℕ} {barred : Bool} → tick′ ≡ tick → barred ≡ ltb tick′ (finishOf decision live′ (fixed .limit))
@@ -698,12 +704,12 @@ module _ {fixed : Fixed} {task : Task} {values₀ labels₀ words₀ marks : Lis
             (λ l. ⊎-elim (λ (z : ran .count ≡ 0). own-deadline z l) (λ o. own-due o) w ∙ rw (up-there, end-there)) stopped
 
         -- What the code decided.
-        decided : decisionOf decision ≡ inLimit there (planFor (pause .reason) there)
-        decided = d .is decidable words′ marks
+        what : decisionOf decision ≡ inLimit there (planFor (pause .reason) there)
+        what = d .is words′ marks
 
         -- When that finishes.
         finishes : finish there (inLimit there (planFor (pause .reason) there)) ≡ finishOf decision paused (fixed .limit)
-        finishes = ap (finish there) (sym decided) ∙ go decision
+        finishes = ap (finish there) (sym what) ∙ go decision
           where
             go : (x : Decision) → finish there (decisionOf x) ≡ finishOf x paused (fixed .limit)
             go Spend = unfold finish in refl
@@ -752,24 +758,30 @@ module _ {fixed : Fixed} {task : Task} {values₀ labels₀ words₀ marks : Lis
           by : (decisionOf decision ≡ decide there) × (finish there (decide there) ≤ tick)
           by =
               let l : finish there (inLimit there (planFor (pause .reason) there)) ≤ tick = rw finishes (ltb-false tick (finishOf decision paused (fixed .limit)) (sym m ∙ on)) in
-              ⊎-elim (λ (same : inLimit there (planFor (pause .reason) there) ≡ decide there). (decided ∙ same, (rw same at l)))
+              ⊎-elim (λ (same : inLimit there (planFor (pause .reason) there) ≡ decide there). (what ∙ same, (rw same at l)))
               (λ (both : (tick < finish there (decide there)) × (tick < finish there (inLimit there (planFor (pause .reason) there)))).
               absurd (omega (arith, both .1, l)))
               (settled w)
 
-          module _ {values″ labels″ : List ℕ} {after : Live} (b₀ : Wrote decision live′ values′ labels values″ labels″) (k₀ : After live′ (fixed .limit) decision after) where
+          module _ {values″ labels″ : List ℕ} {after : Live} (b₀ : _≡_ {A = Bank} (record { values = values″; labels = labels″ }) (writtenBack decision live′ (record { values = values′; labels = labels }))) (k₀ : after ≡ transitions.controlAfter live′ (fixed .limit) decision) where
+            -- What was written is what the model writes.
             b : Wrote decision paused values′ labels values″ labels″
-            b = subst (λ (l : Live). Wrote decision l values′ labels values″ labels″) mv b₀
+            b =
+                subst (λ (l : Live). Wrote decision l values′ labels values″ labels″) mv
+                (subst (λ (x : Bank). Wrote decision live′ values′ labels (x .values) (x .labels)) (sym b₀) (applied.wrote decision live′ values′ labels))
 
+            -- And the control is the model's.
             k : After paused (fixed .limit) decision after
-            k = subst (λ (l : Live). After l (fixed .limit) decision after) mv k₀
+            k =
+                subst (λ (l : Live). After l (fixed .limit) decision after) mv
+                (subst (λ (l : Live). After live′ (fixed .limit) decision l) (sym k₀) (applied.after live′ (fixed .limit) decision (omega (arith, h .limit))))
 
             -- The measure of the loop falls.
             pub fewer : ticksLeft (fixed .limit) after < ticksLeft (fixed .limit) live
-            fewer = ticks-fewer (fixed .limit) live after runs (omega (arith, h .clock, tick-limit (task .pace) (fixed .limit))) (λ e. let g = k .grown stacked-there timely-there (d .applies decidable) runs e in omega (arith, g, clock-there))
+            fewer = ticks-fewer (fixed .limit) live after runs (omega (arith, h .clock, tick-limit (task .pace) (fixed .limit))) (λ e. let g = k .grown stacked-there timely-there (d .applies next-there) runs e in omega (arith, g, clock-there))
 
             applies : Applies decision paused (fixed .limit)
-            applies = d .applies decidable
+            applies = d .applies next-there
 
             stepped : step there ≡ stateFrom fixed (controlOf after) values″ labels″ words′ marks
             stepped =
@@ -858,7 +870,7 @@ Going fixed values₀ labels₀ words₀ marks once single limit tick live₀ va
 
 -- At the start.
 pub going-start : {fixed : Fixed} {start : Control} {values labels words marks turned : List ℕ} {once single : Bool} {tick : ℕ} {live : Live}
-    → Fit fixed start words marks → Lives start live → Mirrors labels turned → live .clock ≤ tick
+    → InRanges fixed start words marks → Lives start live → Mirrors labels turned → live .clock ≤ tick
     → Going fixed values labels words marks once single (fixed .limit) tick live values labels words turned live
 going-start {fixed} {start} {values} {labels} {words} {marks} {turned} {once} {single} {tick} {live} fit lives mirror near pace asked =
     record {
@@ -879,7 +891,7 @@ going-start {fixed} {start} {values} {labels} {words} {marks} {turned} {once} {s
     by-tick = omega (arith, near, asked .tick-is)
 
     newest-start : newestOf (start .first) (start .second) ≡ callOf (live .newest)
-    newest-start = ap (λ (c : Control). newestOf (c .first) (c .second)) (sym (lives .same)) ∙ (unfold newest in (stacked-newest (lives .stacked)))
+    newest-start = ap (λ (c : Control). newestOf (c .first) (c .second)) (sym (lives .same)) ∙ (unfold newest in (newest-is live))
 
     timely-start : Timely live
     timely-start u =
@@ -895,7 +907,7 @@ going-start {fixed} {start} {values} {labels} {words} {marks} {turned} {once} {s
 
 -- Past the tick nothing is done.
 pub past-start : {fixed : Fixed} (task : Task) {values labels words marks : List ℕ} {tick : ℕ} {live : Live}
-    → Fit fixed (task .start) words marks → Lives (task .start) live → tick ≡ tickOf (task .pace) (fixed .limit) → tick < live .clock
+    → InRanges fixed (task .start) words marks → Lives (task .start) live → tick ≡ tickOf (task .pace) (fixed .limit) → tick < live .clock
     → Driven fixed task values labels words marks (task .start) values labels words
 past-start {fixed} task {values} {labels} {words} {marks} {tick} {live} fit lives e h = go (task .pace) e
   where
@@ -946,37 +958,40 @@ alone-asks {fixed} {pace} {words = words} {live = live} {once = once} {tick = ti
     by false f = clock-by
 
 -- Where the steps end, as the code asks it.
-pub ends-as : {pace : Pace} {once single : Bool} {limit tick : ℕ} (x : Bool) {y : Bool} (reason : Reason) → Asked pace once single limit tick → y ≡ relabelsAt reason
-    → (x && single && (once || y)) ≡ (x && (isOnce pace || isStride pace) && (isOnce pace || relabelsAt reason))
-ends-as x reason asked e = rw (asked .single-is, asked .once-is, e)
+pub ends-as : {pace : Pace} {once single : Bool} {limit tick : ℕ} (left′ : ℕ) {place start : Place} {y : Bool} (reason : Reason)
+    → Asked pace once single limit tick → place ≡ start → y ≡ relabelsAt reason
+    → (ltb left′ (place .left) && single && (once || y))
+    ≡ (ltb left′ (start .left) && (isOnce pace || isStride pace) && (isOnce pace || relabelsAt reason))
+ends-as left′ reason asked v e = rw (v, asked .single-is, asked .once-is, e)
 
 -- Where a step is still to be done, it is the first, or more than one was asked for.
-pub first-or-more : {pace : Pace} {once single : Bool} {limit tick : ℕ} (left′ left count : ℕ) (y : Bool) → Asked pace once single limit tick → left′ + count ≤ left
-    → (ltb left′ left && single && (once || y)) ≡ false → (count ≡ 0) ⊎ (isOnce pace ≡ false)
-first-or-more {pace} {once} {single} left′ left count y asked took e =
+pub first-or-more : {pace : Pace} {once single : Bool} {limit tick : ℕ} (left′ count : ℕ) {place start : Place} (y : Bool)
+    → Asked pace once single limit tick → place ≡ start → left′ + count ≤ start .left
+    → (ltb left′ (place .left) && single && (once || y)) ≡ false → (count ≡ 0) ⊎ (isOnce pace ≡ false)
+first-or-more {pace} {once} {single} left′ count {place} {start} y asked v took e =
     ⊎-elim
     (λ (o : isOnce pace ≡ true).
     inl
     (none
-    (λ (l : left′ < left).
-    clash (full (lt-ltb left′ left l) (asked .single-is ∙ rw o) (asked .once-is ∙ o)) e)))
+    (λ (l : left′ < place .left).
+    clash (full (lt-ltb left′ (place .left) l) (asked .single-is ∙ rw o) (asked .once-is ∙ o)) e)))
     inr
     (either (isOnce pace))
   where
     full : {a b c : Bool} → a ≡ true → b ≡ true → c ≡ true → (a && b && (c || y)) ≡ true
     full p q r = rw (p, q, r)
 
-    none : (left′ < left → ⊥) → count ≡ 0
+    none : (left′ < place .left → ⊥) → count ≡ 0
     none f =
-        ⊎-elim (λ (x : ltb left′ left ≡ true). absurd (f (ltb-true left′ left x)))
-        (λ (x : ltb left′ left ≡ false). omega (arith, took, ltb-false left′ left x))
-        (either (ltb left′ left))
+        ⊎-elim (λ (x : ltb left′ (place .left) ≡ true). absurd (f (ltb-true left′ (place .left) x)))
+        (λ (x : ltb left′ (place .left) ≡ false). omega (arith, took, ltb-false left′ (place .left) x, ap (λ (p : Place). p .left) v))
+        (either (ltb left′ (place .left)))
 
 -- ---- what is tested first
 
 -- The test says what the steps ask.
-pub fit-of : (fixed : Fixed) (c : Control) (words marks : List ℕ) → fitting (stateFrom fixed c [] [] words marks) ≡ true → Fit fixed c words marks
-fit-of fixed c words marks e =
+pub ranges-of : (fixed : Fixed) (c : Control) (words marks : List ℕ) → fitting (stateFrom fixed c [] [] words marks) ≡ true → InRanges fixed c words marks
+ranges-of fixed c words marks e =
     let calls = and-iff _ (stacks (c .first) (c .second) && isTimely (c .clock) (newestOf (c .first) (c .second))) .0 e in
     let whole = and-iff _ (lentWhole (fixed .size) (lent words marks)) .0 (calls .0) in
     let clock = and-iff _ (leb (c .clock) (fixed .limit)) .0 (whole .0) in

@@ -7,11 +7,11 @@ use mathlib.Core.Bool.{Bool, true, false, _&&_, _||_, cond, and-false}
 use native.Mathlib.Omega.{arith}
 use lib.Dec.{ltb, eqb}
 use borrow.Author.Tests.{eq-eqb, eqb-true, lt-ltb, le-ltb, ltb-true, ltb-false}
-use Rattle.model.specs.Numbers.{byFailure}
+use Rattle.model.specs.Numbers.{unknownOp, byFailure}
 use Rattle.model.specs.Record.{State, inUpcall}
 use Rattle.model.specs.Word.{Op}
 use Rattle.model.specs.Ops.{Change, write, nothing, Effect, does, ends, Row, table}
-use Rattle.model.specs.Step.{Fetched, failed, fetched, Decision, rest, spend, stall, close, carry, fetch, endTick, finish, passed, attempt, inTime, plan, beyondLimit, inLimit, running, decide, isCarried}
+use Rattle.model.specs.Step.{Fetched, failed, fetched, Decision, rest, spend, stall, close, carry, fetch, endTick, finish, fault, passed, attempt, inTime, plan, beyondLimit, inLimit, running, decide, isCarried}
 use Rattle.model.proofs.Truth.{choice, either, clash, and-iff, or-iff}
 use Rattle.parts.specs.declared.stages.Reason.{Reason}
 use Rattle.parts.specs.declared.stages.Reason.the-variants.{Out, Late, Outside, Unreadable, Failed, Rest}
@@ -178,6 +178,11 @@ abbrev pub Settles : ℕ → Reason → State → Type 0
 Settles k reason s =
     (inLimit s (planFor reason s) ≡ decide s) ⊎ ((k < finish s (decide s)) × (k < finish s (inLimit s (planFor reason s))))
 
+-- What fails in an upcall closes it.
+fault-up : (s : State) (why : ℕ) → inUpcall (s .control) ≡ true → fault s why ≡ close byFailure
+unfolding fault
+fault-up s why u = rw u
+
 -- The deadline is that of the tick k, which is the limit or before it.
 pub settles : (k : ℕ) (reason : Reason) (s : State) {deadline : ℕ} → k ≤ s .fixed .limit → s .control .end ≡ 0
     → (reason ≡ Late → deadline ≡ deadlineOf (inUpcall (s .control)) (endTick s) k) → Stopped reason deadline s → Settles k reason s
@@ -193,8 +198,9 @@ settles k Late s near r d h =
     (either (tooLate s r h))
 settles k Outside s near r d h = inl (sym (running-decides s r ∙ ap (λ (f : Fetched). inLimit s (plan s f)) h))
 settles k Unreadable s near r d h = inl (sym (running-decides s r ∙ ap (λ (f : Fetched). inLimit s (plan s f)) h))
-settles k Failed s near r d h = inl (sym (running-decides s r ∙ ap (inLimit s) (h .0)))
-settles k (Rest w) s near r d h = inl (sym (running-decides s r ∙ ap (λ (f : Fetched). inLimit s (plan s f)) (h .word)))
+settles k Failed s near r d h = inl (ap (inLimit s) (fault-up s unknownOp (h .2) ∙ sym (h .0)) ∙ sym (running-decides s r))
+settles k (Rest w) s near r d h =
+    inl (rw (h .op) (sym (running-decides s r ∙ ap (λ (f : Fetched). inLimit s (plan s f)) (h .word))))
 
 -- A late op isn't carried out.
 late-not-done : (s : State) → isCarried (lateOf s) ≡ false

@@ -2,17 +2,20 @@
 -- Assumes nothing.
 use Prim.Native.Nat.{ℕ}
 use mathlib.Core.Bool.{Bool, true, _&&_, cond}
+use mathlib.Core.List.{List}
 use lib.Dec.{leb, ltb}
+use Rattle.model.specs.declared.Fixed.{Fixed}
 use Rattle.model.specs.declared.Call.{Call}
 use Rattle.model.specs.declared.Call.the-variants.{Empty, Gate, Upcall}
 use Rattle.model.specs.Numbers.{mostWords, mostTicks, mostGates}
-use Rattle.model.specs.Record.{State}
+use Rattle.model.specs.Record.{State, stateFrom}
 use Rattle.model.specs.WellFormed.{lentWhole}
 use Rattle.model.specs.Step.{step, runTo}
 use Rattle.parts.specs.Calls.{newestOf}
 use Rattle.parts.specs.Live.{stacks}
 use Rattle.engine.specs.declared.Pace.{Pace}
 use Rattle.engine.specs.declared.Pace.the-variants.{Once, Onward, Stride}
+use Rattle.engine.specs.declared.Task.{Task}
 use Rattle.engine.specs.Stride.{strode}
 
 -- A call, if it is an upcall, ends at the clock or later.
@@ -38,3 +41,7 @@ paced Stride s = strode s
 -- The steps of such a state. Any other stays as it is.
 abbrev pub advanced : Pace → State → State
 advanced pace s = cond (fitting s) (paced pace s) s
+
+-- A task done, with these registers and this memory.
+abbrev pub performed : Fixed → Task → List ℕ → List ℕ → List ℕ → List ℕ → State
+performed fixed task values labels words marks = advanced (task .pace) (stateFrom fixed (task .start) values labels words marks)

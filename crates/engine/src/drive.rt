@@ -26,7 +26,7 @@ use sprint::ticks_at;
 use transitions::control_after;
 use transitions::moved;
 use transitions::write_back;
-ghost use Prim.Native.Nat.{_+_, _≤_, _<_};
+ghost use Prim.Native.Nat.{_+_, _-_, _≤_, _<_};
 ghost use mathlib.Core.Path.{_≡_};
 ghost use mathlib.Core.Bool.{cond};
 ghost use lib.Dec.{ltb};
@@ -35,7 +35,7 @@ ghost use Rattle.labels.specs.Label.{labelCount, lacking};
 ghost use Rattle.model.specs.Numbers.{mostTicks};
 ghost use Rattle.parts.specs.Stages.{Applies};
 ghost use Rattle.sprint.specs.Sprint.{Mirrors};
-ghost use Rattle.engine.specs.Inner.Drive.{isOnce, isStride, tickOf, contextOf, Alone, relabelsAt, changesLabel, setsLabel, finishOf, Fit, Driven};
+ghost use Rattle.engine.specs.Inner.Drive.{isOnce, isStride, tickOf, contextOf, Alone, relabelsAt, changesLabel, setsLabel, finishOf, InRanges, Driven};
 
 // What stands in the turned labels before they are filled.
 const UNTURNED: Bits = 0;
@@ -214,6 +214,17 @@ fn context_of(size: u32, live: Live, deadline: u32) -> Context
     }
 }
 
+// Where the hot loop starts.
+fn place_of(live: Live, deadline: u32) -> Place
+    requires { ⌜ (live .clock ≤ deadline) × (deadline ≤ mostTicks) ⌝ }
+    ensures { λ r. ⌜ r ≡ record { pc = live .pc; left = deadline + 1 - live .clock } ⌝ }
+{
+    Place {
+        pc: live.pc,
+        left: deadline + 1 - live.clock,
+    }
+}
+
 // The steps that are asked for.
 pub(in crate) fn drive(
     fixed: Fixed,
@@ -223,7 +234,7 @@ pub(in crate) fn drive(
     words: &mut [u32],
     marks: &[Bits],
 ) -> Control
-    requires { ⌜ Fit fixed (task .start) (now words) (now marks) ⌝ }
+    requires { ⌜ InRanges fixed (task .start) (now words) (now marks) ⌝ }
     ensures { λ r. ⌜ Driven fixed task (now (values .entry)) (now (labels .entry)) (now (words .entry)) (now (marks .entry)) r (now (values .exit)) (now (labels .exit)) (now (words .exit)) ⌝ }
 {
     let start = task.start;
@@ -242,10 +253,7 @@ pub(in crate) fn drive(
         let due = deadline_of(tick, live.newest);
         let deadline = alone(due, looked, live, values, &turned, words);
         let context = context_of(fixed.size, live, deadline);
-        let place = Place {
-            pc: live.pc,
-            left: deadline + 1 - live.clock,
-        };
+        let place = place_of(live, deadline);
         let pause = sprint(context, place, values, &turned, words, marks);
         let there = pause.place;
         let reason = pause.reason;

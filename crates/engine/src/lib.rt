@@ -20,7 +20,7 @@ ghost use mathlib.Core.List.{[]};
 ghost use Rattle.model.specs.Record.{stateFrom};
 ghost use Rattle.parts.specs.Calls.{newestOf};
 ghost use Rattle.parts.specs.Live.{stacks};
-ghost use Rattle.engine.specs.Advance.{isTimely, fitting, advanced};
+ghost use Rattle.engine.specs.Advance.{isTimely, fitting, performed};
 
 // How far the steps go.
 pub enum Pace {
@@ -85,7 +85,7 @@ pub fn advance(
     words: &mut [u32],
     marks: &[Bits],
 ) -> Control
-    ensures { λ r. ⌜ stateFrom fixed r (now (values .exit)) (now (labels .exit)) (now (words .exit)) (now (marks .entry)) ≡ advanced (task .pace) (stateFrom fixed (task .start) (now (values .entry)) (now (labels .entry)) (now (words .entry)) (now (marks .entry))) ⌝ }
+    ensures { λ r. ⌜ stateFrom fixed r (now (values .exit)) (now (labels .exit)) (now (words .exit)) (now (marks .entry)) ≡ performed fixed task (now (values .entry)) (now (labels .entry)) (now (words .entry)) (now (marks .entry)) ⌝ }
 {
     let start = task.start;
     if is_fitting(fixed, start, words, marks) {

@@ -9,13 +9,13 @@ use model::numbers::MOST_TICKS;
 use model::numbers::MOST_WORDS;
 use model::numbers::STALLED;
 use model::numbers::UNKNOWN_OP;
+use parts::calls::is_empty;
 ghost use Prim.Native.Nat.{_≤_};
 ghost use mathlib.Core.Path.{_≡_};
 ghost use mathlib.Core.Bool.{_&&_, cond};
 ghost use lib.Dec.{leb, eqb};
 ghost use Rattle.model.specs.declared.Control.{Control};
 ghost use Rattle.model.specs.Numbers.{mostGates, stalled, unknownOp};
-ghost use Rattle.model.specs.Record.{isEmpty};
 ghost use Rattle.model.specs.WellFormed.{sizeInRange, limitInRange, upcallWellFormed, callsWellFormed, gatesValid};
 ghost use Rattle.machine.specs.Inner.WellFormed.{controlAt, overGate};
 
@@ -39,17 +39,6 @@ pub(in crate) fn end_in_range(end: u8, why: u8) -> bool
         return why == 0;
     }
     false
-}
-
-// Whether a place holds no call.
-fn is_absent(call: Call) -> bool
-    ensures { λ r. ⌜ r ≡ isEmpty call ⌝ }
-{
-    match call {
-        Call::Empty => true,
-        Call::Gate(_, _) => false,
-        Call::Upcall(_, _, _) => false,
-    }
 }
 
 // End ticks are below this number: 2^33.
@@ -84,7 +73,7 @@ pub(in crate) fn calls_well_formed(p: Bits, t: Bits, clock: u32, first: Call, se
     ensures { λ r. ⌜ ((c : Control) → r ≡ callsWellFormed (controlAt c p t clock) first second) ⌝ }
 {
     match first {
-        Call::Empty => is_absent(second),
+        Call::Empty => is_empty(second),
         Call::Gate(_, q) => over_gate(
             Label(q.pc).is_valid_pair(Label(q.timing)),
             p,
@@ -92,7 +81,7 @@ pub(in crate) fn calls_well_formed(p: Bits, t: Bits, clock: u32, first: Call, se
             clock,
             second,
         ),
-        Call::Upcall(_, q, e) => is_absent(second) & upcall_well_formed(p, t, clock, q, e),
+        Call::Upcall(_, q, e) => is_empty(second) & upcall_well_formed(p, t, clock, q, e),
     }
 }
 

@@ -21,8 +21,23 @@ pub const VALUE_COUNT: u64 = 4294967296;
 // The most bytes of a text.
 pub const LONGEST_TEXT: usize = 65535;
 
-// End 3, the last of the ends.
+// The ends of a run but for 0, running.
+pub const HALTED: u8 = 1;
+
+pub const CLOCK_SPENT: u8 = 2;
+
 pub const STALLED: u8 = 3;
 
-// Why 3, the last of the whys.
+// Why it stalled: the pc is not below the size, the word's label doesn't flow to the pc label, the op is unknown.
+pub const OUTSIDE_MEMORY: u8 = 1;
+
+pub const UNREADABLE: u8 = 2;
+
 pub const UNKNOWN_OP: u8 = 3;
+
+// The causes by which an upcall closes: op 19, spent time, a failed fetch, branch or jump or a halt.
+pub const BY_ITS_END: u8 = 1;
+
+pub const BY_SPENT_TIME: u8 = 2;
+
+pub const BY_FAILURE: u8 = 3;

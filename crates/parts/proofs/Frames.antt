@@ -3,7 +3,7 @@
 use Prim.Native.Nat.{ℕ, zero, suc, _<_}
 use mathlib.Core.Path.{_≡_, refl, sym, ap, _∙_}
 use mathlib.Core.Logic.{inl, inr, ⊎-elim}
-use mathlib.Core.Bool.{Bool, true, false, cond, false≢true}
+use mathlib.Core.Bool.{Bool, true, false, _||_, cond, false≢true}
 use native.Mathlib.Omega.{arith}
 use lib.Dec.{ltb, eqb}
 use borrow.Author.Tests.{eqb-true, eqb-false, eq-eqb, ne-eqb, lt-ltb, le-ltb}
@@ -14,7 +14,7 @@ use Rattle.model.specs.Record.{isEmpty, isGate, isUpcall, newest}
 use Rattle.model.proofs.Truth.{either}
 use Rattle.parts.specs.declared.live.Frame.{Frame}
 use Rattle.parts.specs.declared.live.Live.{Live}
-use Rattle.parts.specs.Live.{callOf, controlOf, Tidy, Stacked, stacks, Lives}
+use Rattle.parts.specs.Live.{callOf, frameOf, liveOf, controlOf, Tidy, stacks, Lives}
 
 -- ---- a frame by its kind
 
@@ -65,17 +65,19 @@ module _ (f : Frame) where
 
 -- ---- frames as they are made
 
-pub tidy-none : (f : Frame) → f .kind ≡ 0 → f .back ≡ 0 → f .pair ≡ record { pc = 0; timing = 0 } → f .end ≡ 0 → (callOf f ≡ Empty) × Tidy f
-tidy-none f k b p e =
-    (holds-none f k, record { back = rw (holds-none f k) (sym b); pair = rw (holds-none f k) (sym p); end = rw (holds-none f k) (sym e) })
+-- The frame of a call holds it.
+pub frame-held : (c : Call) → callOf (frameOf c) ≡ c
+unfolding callOf
+frame-held Empty = refl
+frame-held (Gate k q) = refl
+frame-held (Upcall k q e) = refl
 
-pub tidy-gate : (f : Frame) → f .kind ≡ 1 → f .end ≡ 0 → (callOf f ≡ Gate (f .back) (f .pair)) × Tidy f
-tidy-gate f k e = (holds-gate f k, record { back = rw (holds-gate f k); pair = rw (holds-gate f k); end = rw (holds-gate f k) (sym e) })
-
-pub tidy-upcall : (f : Frame) → f .kind ≡ 2 → (callOf f ≡ Upcall (f .back) (f .pair) (f .end)) × Tidy f
-tidy-upcall f k =
-    let h : 1 < f .kind = omega (arith, k) in
-    (holds-upcall f h, record { back = rw (holds-upcall f h); pair = rw (holds-upcall f h); end = rw (holds-upcall f h) })
+-- And nothing else.
+pub frame-tidy : (c : Call) → Tidy (frameOf c)
+unfolding callOf
+frame-tidy Empty = record { back = refl; pair = refl; end = refl }
+frame-tidy (Gate k q) = record { back = refl; pair = refl; end = refl }
+frame-tidy (Upcall k q e) = record { back = refl; pair = refl; end = refl }
 
 -- ---- what a call is by its kind
 
@@ -99,32 +101,37 @@ upcall-full (Upcall k q e′) e = refl
 -- ---- the control that is meant
 
 -- Its newest call is that of the newest frame.
-pub stacked-newest : {l : Live} → Stacked l → newest (controlOf l) ≡ callOf (l .newest)
+pub newest-is : (l : Live) → newest (controlOf l) ≡ callOf (l .newest)
 unfolding newest
-stacked-newest {l} h =
-    ⊎-elim (λ (e : isEmpty (callOf (l .older)) ≡ true). rw e)
-    (λ (e : (isGate (callOf (l .older)) ≡ true) × (isUpcall (callOf (l .newest)) ≡ true)).
-    rw (gate-full (callOf (l .older)) (e .0), upcall-full (callOf (l .newest)) (e .1)))
-    (h .under)
-
--- A lone call, or none.
-pub lives-lone : {c : Control} {f g : Frame} → c .second ≡ Empty → callOf f ≡ c .first → Tidy f → callOf g ≡ Empty → Tidy g
-    → Lives c (record { pc = c .pc; pair = c .pair; clock = c .clock; newest = f; older = g; end = c .end; why = c .why })
-lives-lone {c} {f} {g} e a t b u =
-    record { same = rw (b, a, e); stacked = record { newest = t; older = u; under = inl (ap isEmpty b) } }
-
--- An upcall over a gate call.
-pub lives-two : {c : Control} {f g : Frame} → stacks (c .first) (c .second) ≡ true → isEmpty (c .second) ≡ false → callOf f ≡ c .second → Tidy f
-    → callOf g ≡ c .first → Tidy g
-    → Lives c (record { pc = c .pc; pair = c .pair; clock = c .clock; newest = f; older = g; end = c .end; why = c .why })
-lives-two {c} {f} {g} h n a t b u =
-    let both = over (c .first) (c .second) h n in
-    record {
-      same = rw (a, b, gate-full (c .first) (both .0));
-      stacked = record { newest = t; older = u; under = inr (ap isGate b ∙ both .0, ap isUpcall a ∙ both .1) };
-    }
+newest-is l = go (isEmpty (callOf (l .older))) (callOf (l .newest))
   where
-    over : (x y : Call) → stacks x y ≡ true → isEmpty y ≡ false → (isGate x ≡ true) × (isUpcall y ≡ true)
-    over x Empty h n = absurd (false≢true (sym n))
-    over x (Gate k q) h n = absurd (false≢true h)
-    over x (Upcall k q e) h n = (h, refl)
+    go : (b : Bool) (c : Call)
+        → cond (isEmpty (cond (b || isEmpty c) Empty c)) (cond (b || isEmpty c) c (callOf (l .older))) (cond (b || isEmpty c) Empty c) ≡ c
+    go true c = refl
+    go false Empty = refl
+    go false (Gate k q) = refl
+    go false (Upcall k q e) = refl
+
+-- A control that holds its calls as a machine stacks them, and the same while the machine runs.
+pub lives : (c : Control) {l : Live} → l ≡ liveOf c → stacks (c .first) (c .second) ≡ true → Lives c l
+lives c e h = rw e (go (c .first) (c .second) h)
+  where
+    go : (x y : Call) → stacks x y ≡ true
+        → Lives (record { pc = c .pc; pair = c .pair; clock = c .clock; first = x; second = y; end = c .end; why = c .why })
+        (liveOf (record { pc = c .pc; pair = c .pair; clock = c .clock; first = x; second = y; end = c .end; why = c .why }))
+    go x Empty h =
+        record {
+          same = rw (frame-held Empty, frame-held x);
+          stacked = record { newest = frame-tidy x; older = frame-tidy Empty; under = inl (ap isEmpty (frame-held Empty)) };
+        }
+    go x (Gate k q) h = absurd (false≢true h)
+    go x (Upcall k q e) h =
+        record {
+          same = rw (frame-held x, frame-held (Upcall k q e), gate-full x h);
+          stacked =
+              record {
+                newest = frame-tidy (Upcall k q e);
+                older = frame-tidy x;
+                under = inr (ap isGate (frame-held x) ∙ h, ap isUpcall (frame-held (Upcall k q e)));
+              };
+        }

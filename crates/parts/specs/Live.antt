@@ -3,7 +3,7 @@
 use Prim.Native.Nat.{ℕ}
 use mathlib.Core.Path.{_≡_}
 use mathlib.Core.Logic.{_⊎_}
-use mathlib.Core.Bool.{Bool, true, false, cond}
+use mathlib.Core.Bool.{Bool, true, false, _||_, cond}
 use lib.Dec.{eqb}
 use Rattle.model.specs.declared.Control.{Control}
 use Rattle.model.specs.declared.Call.{Call}
@@ -16,6 +16,33 @@ use Rattle.parts.specs.declared.live.Live.{Live}
 unfoldable pub callOf : Frame → Call
 callOf f = cond (eqb (f .kind) 0) Empty (cond (eqb (f .kind) 1) (Gate (f .back) (f .pair)) (Upcall (f .back) (f .pair) (f .end)))
 
+-- No open call.
+abbrev pub noFrame : Frame
+noFrame = record { end = 0; back = 0; pair = record { pc = 0; timing = 0 }; kind = 0 }
+
+-- The frame of a call.
+abbrev pub frameOf : Call → Frame
+frameOf Empty = noFrame
+frameOf (Gate k q) = record { end = 0; back = k; pair = q; kind = 1 }
+frameOf (Upcall k q e) = record { end = e; back = k; pair = q; kind = 2 }
+
+-- The control of a machine that runs on from this one: its newest call on top.
+abbrev pub liveOf : Control → Live
+liveOf c =
+    record {
+      pc = c .pc;
+      pair = c .pair;
+      clock = c .clock;
+      newest = cond (isEmpty (c .second)) (frameOf (c .first)) (frameOf (c .second));
+      older = cond (isEmpty (c .second)) noFrame (frameOf (c .first));
+      end = c .end;
+      why = c .why;
+    }
+
+-- It has one open call at the most, and that is the newest.
+abbrev pub isLone : Live → Bool
+isLone l = isEmpty (callOf (l .older)) || isEmpty (callOf (l .newest))
+
 -- The control that it stands for: a lone call is in the first place.
 abbrev pub controlOf : Live → Control
 controlOf l =
@@ -23,8 +50,8 @@ controlOf l =
       pc = l .pc;
       pair = l .pair;
       clock = l .clock;
-      first = cond (isEmpty (callOf (l .older))) (callOf (l .newest)) (callOf (l .older));
-      second = cond (isEmpty (callOf (l .older))) Empty (callOf (l .newest));
+      first = cond (isLone l) (callOf (l .newest)) (callOf (l .older));
+      second = cond (isLone l) Empty (callOf (l .newest));
       end = l .end;
       why = l .why;
     }

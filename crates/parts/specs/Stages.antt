@@ -3,15 +3,13 @@
 use Prim.Native.Nat.{ℕ, _+_, _^_, _≤_, _<_}
 use mathlib.Core.Path.{_≡_}
 use mathlib.Core.Bool.{Bool, true, false, cond}
-use mathlib.Core.List.{List}
-use Rattle.model.specs.declared.Fixed.{Fixed}
-use Rattle.model.specs.Numbers.{mostGates, registerCount, outsideMemory, unreadable, bySpentTime, byFailure}
-use Rattle.model.specs.Record.{State, stateFrom, register, isEmpty, isUpcall, inUpcall}
+use Rattle.model.specs.Numbers.{registerCount, outsideMemory, unreadable, unknownOp, bySpentTime}
+use Rattle.model.specs.Record.{State, register, isEmpty, isUpcall, inUpcall}
 use Rattle.model.specs.Word.{Op, immediate, arithmetic, load, store, branch, jump, readClock, setLabel, setPair, upcall, endUpcall, gateCall, gateReturn, halt, opField, decode}
 use Rattle.model.specs.Ops as ops
 use Rattle.model.specs.Step as model
 use Rattle.parts.specs.declared.live.Live.{Live}
-use Rattle.parts.specs.Live.{callOf, controlOf, Stacked}
+use Rattle.parts.specs.Live.{callOf}
 use Rattle.parts.specs.declared.stages.Reason.{Reason}
 use Rattle.parts.specs.declared.stages.Reason.the-variants.{Out, Late, Outside, Unreadable, Failed, Rest}
 use Rattle.parts.specs.declared.stages.Change.{Change}
@@ -69,32 +67,29 @@ fetchesCommon (model.fetched w op) = isCommonOp op
 abbrev pub lateOf : State → model.Decision
 lateOf s = cond (inUpcall (s .control)) (model.close bySpentTime) model.spend
 
--- What is planned for a reason to stop, but for the limit.
+-- What is planned at a word where the hot loop stopped. One with a common op it has done itself: here that is no op.
+abbrev pub planAt : ℕ → State → model.Decision
+planAt w s =
+    cond (fetchesCommon (model.known w (decode (opField w)))) (model.fault s unknownOp) (model.plan s (model.known w (decode (opField w))))
+
+-- What is planned for a reason to stop, but for the limit. A branch or jump that failed closes the upcall, as a failed
+-- fetch does.
 abbrev pub planFor : Reason → State → model.Decision
 planFor Out s = model.spend
 planFor Late s = lateOf s
 planFor Outside s = model.fault s outsideMemory
 planFor Unreadable s = model.fault s unreadable
-planFor Failed s = model.close byFailure
-planFor (Rest w) s = model.plan s (model.known w (decode (opField w)))
+planFor Failed s = model.fault s unknownOp
+planFor (Rest w) s = planAt w s
 
--- The word that it stopped at has no common op, and there is a next pc.
+-- Where it stopped at a word, there is a next pc.
 abbrev pub Left : Reason → ℕ → Type 0
 Left Out pc = Unit
 Left Late pc = Unit
 Left Outside pc = Unit
 Left Unreadable pc = Unit
 Left Failed pc = Unit
-Left (Rest w) pc = (fetchesCommon (model.known w (decode (opField w))) ≡ false) × (pc + 1 < 2 ^ 32)
-
--- What a decision rests on: the calls are stacked, no gate is beyond the last, the clock is at most the limit, and the
--- loop stopped for that reason.
-pub record Decidable (reason : Reason) (fixed : Fixed) (live : Live) : Type 0 where
-  pub stacked : Stacked live
-  pub gates : fixed .count ≤ mostGates
-  pub clock : live .clock ≤ fixed .limit
-  pub left : Left reason (live .pc)
-  pub failed : reason ≡ Failed → isUpcall (callOf (live .newest)) ≡ true
+Left (Rest w) pc = pc + 1 < 2 ^ 32
 
 -- ---- what is known of a decision besides
 

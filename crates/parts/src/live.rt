@@ -6,11 +6,9 @@ use model::Control;
 use model::Pair;
 ghost use Prim.Native.Nat.{_≤_};
 ghost use mathlib.Core.Path.{_≡_};
-ghost use mathlib.Core.Bool.{true};
-ghost use Rattle.model.specs.declared.Call.the-variants.{Empty};
 ghost use Rattle.model.specs.Record.{isEmpty, isGate, isUpcall};
 ghost use Rattle.parts.specs.Calls.{deadlineOf};
-ghost use Rattle.parts.specs.Live.{callOf, controlOf, Tidy, stacks, Lives};
+ghost use Rattle.parts.specs.Live.{callOf, noFrame, frameOf, liveOf, controlOf};
 
 // What a frame holds: no call, a gate call, or above that an upcall.
 pub const NO_CALL: u16 = 0;
@@ -40,7 +38,7 @@ pub struct Live {
 
 // No open call.
 pub fn no_frame() -> Frame
-    ensures { λ r. ⌜ (callOf r ≡ Empty) × Tidy r ⌝ }
+    ensures { λ r. ⌜ r ≡ noFrame ⌝ }
 {
     let pair = Pair { pc: 0, timing: 0 };
     Frame {
@@ -82,7 +80,7 @@ pub fn deadline_of(limit: u32, call: Frame) -> u32
 
 // A call in plain numbers.
 pub fn frame_of(call: Call) -> Frame
-    ensures { λ r. ⌜ (callOf r ≡ call) × Tidy r ⌝ }
+    ensures { λ r. ⌜ r ≡ frameOf call ⌝ }
 {
     match call {
         Call::Empty => no_frame(),
@@ -117,7 +115,7 @@ pub fn call_of(frame: Frame) -> Call
 
 // The control of a machine that runs on from this one.
 pub fn live_of(control: Control) -> Live
-    ensures { λ r. ⌜ (stacks (control .first) (control .second) ≡ true → Lives control r) ⌝ }
+    ensures { λ r. ⌜ r ≡ liveOf control ⌝ }
 {
     let pair = control.pair;
     let first = control.first;
@@ -155,7 +153,7 @@ pub fn control_of(live: Live) -> Control
     let newest = live.newest;
     let older = live.older;
     let call = call_of(newest);
-    if is_empty(older) {
+    if is_empty(older) | is_empty(newest) {
         return Control {
             pc: live.pc,
             pair,

@@ -13,10 +13,12 @@ use Rattle.labels.specs.Principals.{mayGo}
 use Rattle.labels.specs.Label.{principals, labelCount, restrictions, lacking, flows}
 use Rattle.labels.proofs.Whole.{restricted-flows}
 use Rattle.model.specs.Numbers.{outsideMemory, unreadable}
-use Rattle.model.specs.Record.{State, valueAt, labelAt, newest, inUpcall}
+use Rattle.model.specs.Record.{State, lent, valueAt, labelAt, newest, inUpcall}
 use Rattle.model.specs.Word.{opField, decode}
 use Rattle.model.specs.Step.{failed, fetch, known, endTick, step}
-use Rattle.model.proofs.Truth.{or-iff, or-true}
+use Rattle.model.specs.WellFormed.{lentWhole}
+use Rattle.model.proofs.Truth.{clash, or-iff, or-true}
+use Rattle.model.proofs.Ready.{whole-lengths, whole-lent}
 use Rattle.parts.specs.declared.stages.Reason.{Reason}
 use Rattle.parts.specs.declared.stages.Reason.the-variants.{Out, Late, Outside, Unreadable, Failed, Rest}
 use Rattle.sprint.specs.declared.Context.{Context}
@@ -24,7 +26,7 @@ use Rattle.sprint.specs.declared.Place.{Place}
 use Rattle.sprint.specs.declared.Pause.{Pause}
 use Rattle.sprint.specs.declared.Turn.{Turn}
 use Rattle.sprint.specs.Skim.{isCommon, Skim, skim}
-use Rattle.sprint.specs.Sprint.{Mirrors, view, Timed, Stopped, Paused, Ran, Sprinted}
+use Rattle.sprint.specs.Sprint.{Mirrors, stateWith, Timed, Stopped, Paused, Ran, Sprinted}
 use Rattle.sprint.specs.Inner.Turns.{Did}
 
 -- ---- one step more
@@ -90,23 +92,30 @@ pub record Skims (before after : State) (left left′ : ℕ) : Type 0 where
 pub record Runs (context : Context) (turned marks : List ℕ) (pc₀ left₀ : ℕ) (values₀ words₀ : List ℕ) (pc left : ℕ) (values words : List ℕ) : Type 0 where
   pub run :
       left₀ ≤ context .deadline + 1 → (s : State) (labels : List ℕ) → Mirrors labels turned
-      → Timed (view s context pc₀ left₀ values₀ labels words₀ marks) context
-      → Skims (view s context pc₀ left₀ values₀ labels words₀ marks) (view s context pc left values labels words marks) left₀ left
+      → Timed (stateWith s context pc₀ left₀ values₀ labels words₀ marks) context
+      → Skims (stateWith s context pc₀ left₀ values₀ labels words₀ marks) (stateWith s context pc left values labels words marks) left₀ left
   pub fewer : left ≤ left₀
   pub some : 0 < left₀ → 0 < left
   pub long : length words ≡ length words₀
+  pub whole : lentWhole (context .size) (lent words₀ marks) ≡ true
 
 -- It holds at the start.
 pub runs-none : {context : Context} {turned marks : List ℕ} {pc left : ℕ} {values words : List ℕ}
-    → Runs context turned marks pc left values words pc left values words
+    → lentWhole (context .size) (lent words marks) ≡ true → Runs context turned marks pc left values words pc left values words
 unfolding skim
-runs-none =
-    record { run = λ b s labels m t. record { count = 0; skims = refl; took = omega arith; still = λ e. refl }; fewer = omega arith; some = λ x. x; long = refl }
+runs-none h =
+    record {
+      run = λ b s labels m t. record { count = 0; skims = refl; took = omega arith; still = λ e. refl };
+      fewer = omega arith;
+      some = λ x. x;
+      long = refl;
+      whole = h;
+    }
 
 -- That the state runs, whether it is in an upcall, and its deadline, are the same at every turn.
 still-timed : (s : State) (context : Context) (labels marks : List ℕ) (pc₀ left₀ : ℕ) (values₀ words₀ : List ℕ)
-    (pc left : ℕ) (values words : List ℕ) → Timed (view s context pc₀ left₀ values₀ labels words₀ marks) context
-    → Timed (view s context pc left values labels words marks) context
+    (pc left : ℕ) (values words : List ℕ) → Timed (stateWith s context pc₀ left₀ values₀ labels words₀ marks) context
+    → Timed (stateWith s context pc left values labels words marks) context
 unfolding inUpcall newest endTick
 still-timed s context labels marks pc₀ left₀ values₀ words₀ pc left values words h =
     record { running = h .running; upcall = h .upcall; due = h .due }
@@ -115,24 +124,25 @@ still-timed s context labels marks pc₀ left₀ values₀ words₀ pc left valu
 abbrev pub Does : Context → List ℕ → List ℕ → ℕ → ℕ → List ℕ → List ℕ → Turn → List ℕ → List ℕ → Type 0
 Does context turned marks pc left values words turn values′ words′ =
     (s : State) (labels : List ℕ) → Mirrors labels turned → left ≤ context .deadline + 1
-    → Timed (view s context pc left values labels words marks) context
-    → Did (view s context pc left values labels words marks) (context .deadline) left turn values′ words′
+    → Timed (stateWith s context pc left values labels words marks) context
+    → Did (stateWith s context pc left values labels words marks) (context .deadline) left turn values′ words′
 
 module _ {context : Context} {turned marks : List ℕ} {start : Place} {values₀ words₀ : List ℕ} {pc left : ℕ} {values words : List ℕ} (r : Runs context turned marks (start .pc) (start .left) values₀ words₀ pc left values words) where
   -- The states of now are still told the truth.
-  timed-now : (s : State) (labels : List ℕ) → Timed (view s context (start .pc) (start .left) values₀ labels words₀ marks) context
-      → Timed (view s context pc left values labels words marks) context
+  timed-now : (s : State) (labels : List ℕ) → Timed (stateWith s context (start .pc) (start .left) values₀ labels words₀ marks) context
+      → Timed (stateWith s context pc left values labels words marks) context
   timed-now s labels t =
       still-timed s context labels marks (start .pc) (start .left) values₀ words₀ pc left values words t
 
   -- Where the loop pauses, for a reason that holds of every such state.
   pub paused-here : (reason : Reason) {pause : Pause} → pause ≡ record { place = record { pc = pc; left = left }; reason = reason }
-      → ((s : State) (labels : List ℕ) → Paused reason left (context .deadline) (view s context pc left values labels words marks))
+      → ((s : State) (labels : List ℕ) → Paused reason left (context .deadline) (stateWith s context pc left values labels words marks))
       → Sprinted context start values₀ turned words₀ marks pause values words
   paused-here reason q h =
       rw q (record {
+        short = λ x. clash (r .whole) x;
         ran =
-            λ a b d s labels m t.
+            λ a d s labels m t.
             let k = r .run d s labels m t in
             record { count = k .count; skims = k .skims; took = k .took; still = k .still; some = r .some; paused = h s labels };
       })
@@ -144,7 +154,7 @@ module _ {context : Context} {turned marks : List ℕ} {start : Place} {values�
 
   -- Where the loop itself stops.
   pub stopped : (reason : Reason) {pause : Pause} → pause ≡ record { place = record { pc = pc; left = left }; reason = reason }
-      → ((s : State) (labels : List ℕ) → Stopped reason (context .deadline) (view s context pc left values labels words marks))
+      → ((s : State) (labels : List ℕ) → Stopped reason (context .deadline) (stateWith s context pc left values labels words marks))
       → Sprinted context start values₀ turned words₀ marks pause values words
   stopped reason q h = paused-here reason q (λ s labels. pauses reason left (context .deadline) _ (h s labels))
 
@@ -172,6 +182,7 @@ module _ {context : Context} {turned marks : List ℕ} {start : Place} {values�
           fewer = omega (arith, r .fewer);
           some = λ x. omega (arith, f);
           long = l ∙ r .long;
+          whole = r .whole;
         }
 
     -- After one that did none.
@@ -179,14 +190,15 @@ module _ {context : Context} {turned marks : List ℕ} {start : Place} {values�
         → Sprinted context start values₀ turned words₀ marks pause values′ words′
     stopped-turn q e =
         rw q (record {
+          short = λ x. clash (r .whole) x;
           ran =
-              λ a b d s labels m t.
+              λ a d s labels m t.
               let k = r .run d s labels m t in
               let x = h s labels m (omega (arith, r .fewer, d)) (timed-now s labels t) .stops e in
               subst₂
               (λ (v w : List ℕ).
-              Ran (view s context (start .pc) (start .left) values₀ labels words₀ marks)
-              (view s context pc left v labels w marks) (context .deadline) (start .left) left (turn .reason))
+              Ran (stateWith s context (start .pc) (start .left) values₀ labels words₀ marks)
+              (stateWith s context pc left v labels w marks) (context .deadline) (start .left) left (turn .reason))
               (sym (x .registers)) (sym (x .memory))
               (record {
                 count = k .count;
@@ -200,22 +212,28 @@ module _ {context : Context} {turned marks : List ℕ} {start : Place} {values�
 
 -- ---- memory that is lent too short
 
--- Where the test of the lengths passes, the promise has nothing to say.
-pub too-short : {context : Context} {start : Place} {values turned words marks : List ℕ} {pause : Pause} {values′ words′ : List ℕ} {size : ℕ}
-    → size ≡ context .size → (ltb (length words) size || ltb (length marks) size) ≡ true
-    → Sprinted context start values turned words marks pause values′ words′
-too-short {context} {words = words} {marks = marks} {size = size} i e =
-    record { ran = λ a b d s labels m t. absurd (none a b (or-true (ltb (length words) size) (ltb (length marks) size) e)) }
+-- Where the test of the lengths passes, nothing is done.
+pub too-short : {context : Context} {start : Place} {values turned words marks : List ℕ} {pause : Pause} {size : ℕ}
+    → size ≡ context .size → (ltb (length words) size || ltb (length marks) size) ≡ true → pause ≡ record { place = start; reason = Out }
+    → Sprinted context start values turned words marks pause values words
+too-short {context} {words = words} {marks = marks} {size = size} i e q =
+    record {
+      short = λ x. (q, refl, refl);
+      ran =
+          λ a d s labels m t.
+          absurd (none (whole-lengths (context .size) (lent words marks) a) (or-true (ltb (length words) size) (ltb (length marks) size) e));
+    }
   where
-    none : context .size ≤ length words → context .size ≤ length marks
+    none : (context .size ≤ length words) × (context .size ≤ length marks)
         → (ltb (length words) size ≡ true) ⊎ (ltb (length marks) size ≡ true) → ⊥
-    none a b (inl x) = let z = ltb-true (length words) size x in absurd (omega (arith, i))
-    none a b (inr x) = let z = ltb-true (length marks) size x in absurd (omega (arith, i))
+    none a (inl x) = let z = ltb-true (length words) size x in absurd (omega (arith, i, a .0))
+    none a (inr x) = let z = ltb-true (length marks) size x in absurd (omega (arith, i, a .1))
 
 -- Where it fails, memory is lent whole.
 pub lent-whole : {whole : ℕ} (words marks : List ℕ) {size : ℕ} → size ≡ whole
-    → (ltb (length words) size || ltb (length marks) size) ≡ false → (whole ≤ length words) × (whole ≤ length marks)
-lent-whole words marks {size} i e =
+    → (ltb (length words) size || ltb (length marks) size) ≡ false → lentWhole whole (lent words marks) ≡ true
+lent-whole {whole} words marks {size} i e =
     let h = or-iff (ltb (length words) size) (ltb (length marks) size) .0 e in
     let x = ltb-false (length words) size (h .0) in
-    let y = ltb-false (length marks) size (h .1) in (omega (arith, i), omega (arith, i))
+    let y = ltb-false (length marks) size (h .1) in
+    whole-lent whole (lent words marks) (omega (arith, i, x)) (omega (arith, i, y))

@@ -4,7 +4,7 @@ use Prim.Native.Nat.{ℕ, zero, suc, _+_, _≤_, _<_}
 use mathlib.Core.Path.{_≡_, refl, sym, ap, ap₂, _∙_, subst}
 use mathlib.Core.Bool.{Bool, true, false, _&&_, false≢true}
 use mathlib.Core.List.{List, [], _∷_}
-use mathlib.Core.Option.{some}
+use mathlib.Core.Option.{Option, none, some}
 use native.Mathlib.Omega.{arith}
 use lib.Bits.{bitOr}
 use lib.ListN.{getD, getElem?}
@@ -14,10 +14,14 @@ use Rattle.labels.proofs.Whole.{restricted-flows, or-may-go}
 use Rattle.model.specs.Numbers.{registerCount}
 use Rattle.model.specs.Record.{State, valueAt, labelAt}
 use Rattle.model.specs.Word.{add, subtract, and, or, xor, less, multiply, divide, remainder, equal, below, raise, relabel, Op, immediate, arithmetic, load, store, branch, jump, readClock, setLabel, setPair, upcall, endUpcall, gateCall, gateReturn, halt, ops, opField, bField, cField, decode}
-use Rattle.model.specs.Ops.{table, arithmeticTicks}
+use Rattle.model.specs.Ops.{multiplyTicks, arithmeticTicks, visible, table}
+use Rattle.model.proofs.Multiply.{count-le}
 use Rattle.model.specs.Step.{Fetched, failed, fetched, known}
 use Rattle.parts.specs.Stages.{isCommonOp}
-use Rattle.sprint.specs.Sprint.{Mirrors, Timing}
+use Rattle.sprint.specs.Sprint.{Mirrors, commonTicks, fetchedTicks, ticksAt}
+use Rattle.sprint.specs.Inner.Turns.{Timing}
+use Rattle.sprint.proofs.Checks.{both-go}
+use Rattle.sprint.proofs.Numbering.{b-below, c-below}
 
 -- ---- the numbers of ops
 
@@ -87,85 +91,126 @@ number-of w (suc k) op e =
 abbrev pub Brief : ℕ → Type 0
 Brief n = ((((Unit {0} × (n ≡ 8 → ⊥)) × (n ≡ 9 → ⊥)) × (n ≡ 10 → ⊥)) × (n ≡ 23 → ⊥)) × (n ≡ 24 → ⊥)
 
--- Then a common op takes one.
-one-tick : (s : State) (w n : ℕ) (op : Op) → n ≡ number op → Brief n → isCommonOp op ≡ true → 1 ≡ table s w op .ticks
-unfolding table
-one-tick s w n immediate e h c = refl
-one-tick s w n (arithmetic add) e h c = refl
-one-tick s w n (arithmetic subtract) e h c = refl
-one-tick s w n (arithmetic and) e h c = refl
-one-tick s w n (arithmetic or) e h c = refl
-one-tick s w n (arithmetic xor) e h c = refl
-one-tick s w n (arithmetic less) e h c = refl
-one-tick s w n (arithmetic multiply) e h c = absurd (h .0 .0 .0 .0 .1 e)
-one-tick s w n (arithmetic divide) e h c = absurd (h .0 .1 e)
-one-tick s w n (arithmetic remainder) e h c = absurd (h .1 e)
-one-tick s w n load e h c = absurd (h .0 .0 .0 .1 e)
-one-tick s w n store e h c = absurd (h .0 .0 .1 e)
-one-tick s w n (branch f) e h c = refl
-one-tick s w n jump e h c = refl
-one-tick s w n readClock e h c = refl
-one-tick s w n (setLabel f) e h c = absurd (false≢true c)
-one-tick s w n setPair e h c = absurd (false≢true c)
-one-tick s w n upcall e h c = absurd (false≢true c)
-one-tick s w n endUpcall e h c = absurd (false≢true c)
-one-tick s w n gateCall e h c = absurd (false≢true c)
-one-tick s w n gateReturn e h c = absurd (false≢true c)
-one-tick s w n halt e h c = absurd (false≢true c)
+-- Then its op takes one.
+one-tick : (n : ℕ) (op : Op) (visible : Bool) (v : ℕ) → n ≡ number op → Brief n → 1 ≡ commonTicks op visible v
+one-tick n immediate visible v e h = refl
+one-tick n (arithmetic add) visible v e h = refl
+one-tick n (arithmetic subtract) visible v e h = refl
+one-tick n (arithmetic and) visible v e h = refl
+one-tick n (arithmetic or) visible v e h = refl
+one-tick n (arithmetic xor) visible v e h = refl
+one-tick n (arithmetic less) visible v e h = refl
+one-tick n (arithmetic multiply) visible v e h = absurd (h .0 .0 .0 .0 .1 e)
+one-tick n (arithmetic divide) visible v e h = absurd (h .0 .1 e)
+one-tick n (arithmetic remainder) visible v e h = absurd (h .1 e)
+one-tick n load visible v e h = absurd (h .0 .0 .0 .1 e)
+one-tick n store visible v e h = absurd (h .0 .0 .1 e)
+one-tick n (branch f) visible v e h = refl
+one-tick n jump visible v e h = refl
+one-tick n readClock visible v e h = refl
+one-tick n (setLabel f) visible v e h = refl
+one-tick n setPair visible v e h = refl
+one-tick n upcall visible v e h = refl
+one-tick n endUpcall visible v e h = refl
+one-tick n gateCall visible v e h = refl
+one-tick n gateReturn visible v e h = refl
+one-tick n halt visible v e h = refl
 
+-- Whether the operands of a word may show in the time.
+abbrev shown : ℕ → ℕ → List ℕ → Bool
+shown w t turned = mayGo (bitOr (getD turned (bField w) 0) (getD turned (cField w) 0)) (lacking t)
+
+-- The ticks at a word, by the number of its op.
 module _ (w t : ℕ) (values turned : List ℕ) {n : ℕ} (i : n ≡ opField w) where
   -- The number of an op that is brief.
-  pub brief : Brief n → Timing w t values turned 1
-  brief h =
-      record { is = λ s op et ev m f c. one-tick s w n op (i ∙ number-of w (opField w) op f) h c; few = omega arith }
+  pub brief : Brief n → 1 ≡ ticksAt w t values turned
+  unfolding ticksAt
+  brief h = rw (← i) (go (decode n) refl)
+    where
+      go : (o : Option Op) → decode n ≡ o → 1 ≡ fetchedTicks (known w o) (shown w t turned) (getD values (cField w) 0)
+      go none e = refl
+      go (some op) e = one-tick n op (shown w t turned) (getD values (cField w) 0) (number-of w n op (ap (known w) e)) h
 
-  -- The number k of an op that takes r ticks in every such state.
-  timing-of : {k r : ℕ} (op : Op) → n ≡ k → decode k ≡ some op → r ≤ 34
-      → ((s : State) → s .control .pair .timing ≡ t → s .registers .values ≡ values → Mirrors (s .registers .labels) turned
-      → r ≡ table s w op .ticks)
-      → Timing w t values turned r
-  timing-of {k} {r} op e d few h =
-      record {
-        is =
-            λ s op′ et ev m f c.
-            let q : op ≡ op′ =
-            ap opIn (sym (ap (λ (j : ℕ). known w (decode j)) (sym i ∙ e) ∙ ap (known w) d) ∙ f) in
-            subst (λ (o : Op). r ≡ table s w o .ticks) q (h s et ev m);
-        few = few;
-      }
+  -- The number k of a known op.
+  pub ticks-by : {k : ℕ} (op : Op) → n ≡ k → decode k ≡ some op
+      → commonTicks op (shown w t turned) (getD values (cField w) 0) ≡ ticksAt w t values turned
+  unfolding ticksAt
+  ticks-by op e d = rw (← i, e, d)
 
-  -- Op 9.
-  pub load-ticks : n ≡ 9 → Timing w t values turned 3
-  unfolding decode table
-  load-ticks e = timing-of load e refl (omega arith) (λ s et ev m. refl)
+  -- Op 8, by the numbers of its registers as the code has them.
+  pub multiply-by : n ≡ 8 → {x y : ℕ} → x ≡ bField w → y ≡ cField w → {lacked : ℕ} → lacked ≡ lacking t → {v : Bool}
+      → v ≡ mayGo (bitOr (getD turned x 0) (getD turned y 0)) lacked → {r : ℕ} → r ≡ arithmeticTicks multiply v (getD values y 0)
+      → r ≡ ticksAt w t values turned
+  unfolding decode
+  multiply-by e ex ey el ev er = rw (er, ev, el, ex, ey) (ticks-by (arithmetic multiply) e refl)
 
-  -- Op 10.
-  pub store-ticks : n ≡ 10 → Timing w t values turned 3
-  unfolding decode table
-  store-ticks e = timing-of store e refl (omega arith) (λ s et ev m. refl)
+-- ---- the same in a state
 
-  -- Op 23, whoever may see its operands.
-  pub divide-ticks : n ≡ 23 → {r : ℕ} → (r ≡ 34) × (r ≤ 34) → Timing w t values turned r
-  unfolding decode table
-  divide-ticks e h = timing-of (arithmetic divide) e refl (h .1) (λ s et ev m. h .0)
+-- The operands may show in the time: Lb and Lc flow to t.
+module _ (w t : ℕ) (s : State) {values turned : List ℕ} (b : t < labelCount) (et : s .control .pair .timing ≡ t) (ev : s .registers .values ≡ values) (m : Mirrors (s .registers .labels) turned) where
+  -- Where the turned labels are those of the registers.
+  shown-is : shown w t turned ≡ visible s w
+  unfolding labelAt
+  shown-is =
+      rw et
+      (both-go (record { is = refl; below = b }) (record { is = m .held (bField w) (b-below w) })
+      (record { is = m .held (cField w) (c-below w) }))
 
-  -- Op 24 likewise.
-  pub remainder-ticks : n ≡ 24 → {r : ℕ} → (r ≡ 34) × (r ≤ 34) → Timing w t values turned r
-  unfolding decode table
-  remainder-ticks e h = timing-of (arithmetic remainder) e refl (h .1) (λ s et ev m. h .0)
+  -- The ticks of a common op are those of its row.
+  row-ticks : (op : Op) → isCommonOp op ≡ true → commonTicks op (shown w t turned) (getD values (cField w) 0) ≡ table s w op .ticks
+  unfolding table valueAt
+  row-ticks immediate c = refl
+  row-ticks (arithmetic f) c = rw (shown-is, ev)
+  row-ticks load c = refl
+  row-ticks store c = refl
+  row-ticks (branch f) c = refl
+  row-ticks jump c = refl
+  row-ticks readClock c = refl
+  row-ticks (setLabel f) c = absurd (false≢true c)
+  row-ticks setPair c = absurd (false≢true c)
+  row-ticks upcall c = absurd (false≢true c)
+  row-ticks endUpcall c = absurd (false≢true c)
+  row-ticks gateCall c = absurd (false≢true c)
+  row-ticks gateReturn c = absurd (false≢true c)
+  row-ticks halt c = absurd (false≢true c)
 
-  -- Op 8, which shows its operands where both labels flow to t.
-  pub multiply-ticks : t < labelCount → n ≡ 8 → {x y : ℕ} → (x ≡ bField w) × (x < registerCount) → (y ≡ cField w) × (y < registerCount)
-      → {lacked : ℕ} → lacked ≡ lacking t → {visible : Bool} → visible ≡ mayGo (bitOr (getD turned x 0) (getD turned y 0)) lacked → {r : ℕ}
-      → (r ≡ arithmeticTicks multiply visible (getD values y 0)) × (r ≤ 34) → Timing w t values turned r
-  unfolding decode table valueAt labelAt
-  multiply-ticks b e {x} {y} ex ey el ev h =
-      timing-of (arithmetic multiply) e refl (h .1)
-      (λ s et er m.
-      let flow : (k : ℕ) → k < registerCount → mayGo (getD turned k 0) (lacking t) ≡ flows (getD (s .registers .labels) k 0) t =
-      λ k l. ap (λ (z : ℕ). mayGo z (lacking t)) (m .held k l) ∙ restricted-flows principals (getD (s .registers .labels) k 0) t b in
-      rw (et, er, ← ex .0, ← ey .0)
-      (h .0
-      ∙ ap (λ (v : Bool). arithmeticTicks multiply v (getD values y 0))
-      (ev ∙ ap (mayGo (bitOr (getD turned x 0) (getD turned y 0))) el ∙ or-may-go (getD turned x 0) (getD turned y 0) (lacking t)
-      ∙ ap₂ _&&_ (flow x (ex .1)) (flow y (ey .1)))))
+-- No op takes more than 34.
+few-ticks : (op : Op) (visible : Bool) (v : ℕ) → commonTicks op visible v ≤ 34
+unfolding multiplyTicks
+few-ticks immediate visible v = omega arith
+few-ticks (arithmetic add) visible v = omega arith
+few-ticks (arithmetic subtract) visible v = omega arith
+few-ticks (arithmetic and) visible v = omega arith
+few-ticks (arithmetic or) visible v = omega arith
+few-ticks (arithmetic xor) visible v = omega arith
+few-ticks (arithmetic less) visible v = omega arith
+few-ticks (arithmetic multiply) visible v = omega (arith, count-le visible v)
+few-ticks (arithmetic divide) visible v = omega arith
+few-ticks (arithmetic remainder) visible v = omega arith
+few-ticks load visible v = omega arith
+few-ticks store visible v = omega arith
+few-ticks (branch f) visible v = omega arith
+few-ticks jump visible v = omega arith
+few-ticks readClock visible v = omega arith
+few-ticks (setLabel f) visible v = omega arith
+few-ticks setPair visible v = omega arith
+few-ticks upcall visible v = omega arith
+few-ticks endUpcall visible v = omega arith
+few-ticks gateCall visible v = omega arith
+few-ticks gateReturn visible v = omega arith
+few-ticks halt visible v = omega arith
+
+-- The ticks at a word are those of its common op.
+pub timing-is : (w t : ℕ) (values turned : List ℕ) {r : ℕ} → t < labelCount → r ≡ ticksAt w t values turned → Timing w t values turned r
+unfolding ticksAt
+timing-is w t values turned b e =
+    record {
+      is =
+          λ s op et ev m f c.
+          e ∙ ap (λ (x : Fetched). fetchedTicks x (shown w t turned) (getD values (cField w) 0)) f ∙ row-ticks w t s b et ev m op c;
+      few = rw e (at-most (known w (decode (opField w))));
+    }
+  where
+    at-most : (x : Fetched) → fetchedTicks x (shown w t turned) (getD values (cField w) 0) ≤ 34
+    at-most (failed why) = omega arith
+    at-most (fetched x op) = few-ticks op (shown w t turned) (getD values (cField w) 0)

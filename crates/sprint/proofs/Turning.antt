@@ -26,8 +26,8 @@ use Rattle.sprint.specs.declared.Context.{Context}
 use Rattle.sprint.specs.declared.Spot.{Spot}
 use Rattle.sprint.specs.declared.Turn.{Turn}
 use Rattle.sprint.specs.Skim.{isCommon}
-use Rattle.sprint.specs.Sprint.{Mirrors, view, Timed, Stopped}
-use Rattle.sprint.specs.Inner.Turns.{going, stopping, timed, gone, Assigned, Combined, LoadTurn, StoreTurn, moving, Did}
+use Rattle.sprint.specs.Sprint.{Mirrors, stateWith, Timed, Stopped}
+use Rattle.sprint.specs.Inner.Turns.{going, stopping, timed, gone, Assigned, Immediate, ClockTurn, Combined, LoadTurn, StoreTurn, moving, Did}
 use Rattle.sprint.proofs.Checks.{Holds, Lacks, one-goes, both-go, two-go, three-go, three-go-right}
 use Rattle.sprint.proofs.Numbering.{a-below, b-below, c-below}
 
@@ -269,9 +269,9 @@ pub told-clock : (left deadline : ℕ) → left ≤ deadline + 1 → deadline + 
 told-clock left deadline l = omega (arith, l)
 
 -- The clock as the code computes it from the ticks left.
-clock-read : (left deadline : ℕ) {x y : ℕ} → left ≤ deadline + 1 → x ≡ (deadline + 1) % 2 ^ 32 → (y + left) % 2 ^ 32 ≡ x → y < 2 ^ 32
+clock-read : (left deadline : ℕ) {y : ℕ} → left ≤ deadline + 1 → (y + left) % 2 ^ 32 ≡ (deadline + 1) % 2 ^ 32 → y < 2 ^ 32
     → y ≡ (deadline + 1 - left) % 2 ^ 32
-clock-read left deadline l e f b = omega (arith, l, e, f, b)
+clock-read left deadline l e b = omega (arith, l, e, b)
 
 -- The restrictions of a label are its.
 under : (x : ℕ) → Holds (restrictions x) x
@@ -285,13 +285,13 @@ towards b = record { is = refl; below = b }
 pub record Here (s : State) (context : Context) (spot : Spot) (values labels turned words marks : List ℕ) : Type 0 where
   pub mirrors : Mirrors labels turned
   pub left : spot .left ≤ context .deadline + 1
-  pub timed : Timed (view s context (spot .pc) (spot .left) values labels words marks) context
+  pub timed : Timed (stateWith s context (spot .pc) (spot .left) values labels words marks) context
 
 -- In such a state.
 module _ {s : State} {context : Context} {spot : Spot} {values labels turned words marks : List ℕ} (h : Here s context spot values labels turned words marks) where
   -- The state.
   abbrev here : State
-  here = view s context (spot .pc) (spot .left) values labels words marks
+  here = stateWith s context (spot .pc) (spot .left) values labels words marks
 
   -- Its word.
   abbrev w : ℕ
@@ -320,13 +320,11 @@ module _ {s : State} {context : Context} {spot : Spot} {values labels turned wor
   sets f c {a} {ok} {v} {k} e p t = sets-row due f c a (ok && writable a) v k (e .turn) (e .values) p t refl
 
   -- Op 1.
-  pub immediate-turn : fetch here ≡ fetched w immediate → {a b : ℕ} → Fields w a b → {ok : Bool} {v x : ℕ} {r : Turn} {values′ : List ℕ}
-      → Assigned values a ok v 1 spot r values′ → ok ≡ mayGo x (getD turned (a + registerCount) 0)
-      → x ≡ restrictions (context .pair .pc) → v ≡ nField w → Turns r values′ words
+  pub immediate-turn : fetch here ≡ fetched w immediate → {r : Turn} {values′ : List ℕ}
+      → Immediate spot (context .pair) values turned r values′ → Turns r values′ words
   unfolding table labelAt
-  immediate-turn f i e eo ex ev =
-      sets f refl e (omega arith)
-      (rw (eo, i .ra, ev, one-goes (lacked (aField w) (a-below w)) (record { is = ex })))
+  immediate-turn f e =
+      sets f refl e (omega arith) (rw (one-goes (lacked (aField w) (a-below w)) (under (context .pair .pc))))
 
   -- The arithmetic ops.
   pub arithmetic-turn : {o : Arithmetic} → context .pair .timing < labelCount → fetch here ≡ fetched w (arithmetic o)
@@ -382,14 +380,15 @@ module _ {s : State} {context : Context} {spot : Spot} {values labels turned wor
       goes-row due f refl ok true (getD values b 0) e (rw (eo, i .rb, one-goes (record { is = ex; below = p }) (held (bField w) (b-below w)))) refl refl
 
   -- Op 14.
-  pub clock-turn : fetch here ≡ fetched w readClock → {a b : ℕ} → Fields w a b → {ok : Bool} {v x y z : ℕ} {r : Turn} {values′ : List ℕ}
-      → Assigned values a ok v 1 spot r values′ → ok ≡ mayGo (bitOr x y) (getD turned (a + registerCount) 0)
-      → x ≡ restrictions (context .pair .pc) → y ≡ restrictions (context .pair .timing)
-      → z ≡ (context .deadline + 1) % 2 ^ 32 → (v + spot .left) % 2 ^ 32 ≡ z → v < 2 ^ 32 → Turns r values′ words
+  pub clock-turn : fetch here ≡ fetched w readClock → {r : Turn} {values′ : List ℕ} → ClockTurn context spot values turned r values′
+      → Turns r values′ words
   unfolding table labelAt
-  clock-turn f i e eo ex ey ez ev b =
-      sets f refl e (omega arith)
-      (rw (eo, i .ra, two-go (lacked (aField w) (a-below w)) (record { is = ex }) (record { is = ey }), clock-read (spot .left) (context .deadline) (h .left) ez ev b))
+  clock-turn f e =
+      sets f refl (e .assigned) (omega arith)
+      (rw (
+        two-go (lacked (aField w) (a-below w)) (under (context .pair .pc)) (under (context .pair .timing)),
+        clock-read (spot .left) (context .deadline) (h .left) (e .counted) (e .short),
+      ))
 
 -- ---- the other ops
 

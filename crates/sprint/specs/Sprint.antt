@@ -4,13 +4,16 @@ use Prim.Native.Nat.{ℕ, _+_, _-_, _≤_, _<_}
 use mathlib.Core.Path.{_≡_}
 use mathlib.Core.Bool.{Bool, true, false}
 use mathlib.Core.List.{List}
-use lib.ListN.{length, getD}
+use lib.Bits.{bitOr}
+use lib.ListN.{getD}
+use Rattle.labels.specs.Principals.{mayGo}
 use Rattle.labels.specs.Label.{labelCount, restrictions, lacking}
 use Rattle.model.specs.Numbers.{registerCount, outsideMemory, unreadable, byFailure}
-use Rattle.model.specs.Record.{State, stateFrom, inUpcall}
-use Rattle.model.specs.Word.{Op, opField, decode}
-use Rattle.model.specs.Ops.{Change, table}
-use Rattle.model.specs.Step.{close, carry, failed, fetched, fetch, known, endTick, attempt, plan}
+use Rattle.model.specs.Record.{State, lent, stateFrom, inUpcall}
+use Rattle.model.specs.WellFormed.{lentWhole}
+use Rattle.model.specs.Word.{Op, immediate, arithmetic, load, store, branch, jump, readClock, setLabel, setPair, upcall, endUpcall, gateCall, gateReturn, halt, opField, bField, cField, decode}
+use Rattle.model.specs.Ops.{Change, arithmeticTicks, table}
+use Rattle.model.specs.Step.{close, carry, Fetched, failed, fetched, fetch, known, endTick, attempt, plan}
 use Rattle.parts.specs.declared.stages.Reason.{Reason}
 use Rattle.parts.specs.declared.stages.Reason.the-variants.{Out, Late, Outside, Unreadable, Failed, Rest}
 use Rattle.parts.specs.Calls.{deadlineOf}
@@ -30,8 +33,8 @@ pub record Mirrors (labels turned : List ℕ) : Type 0 where
 
 -- The state s with what the loop holds in its place: size, pair, pc, clock, registers and memory. The clock is told by
 -- the ticks that are left to the deadline, the present one counted.
-abbrev pub view : State → Context → ℕ → ℕ → List ℕ → List ℕ → List ℕ → List ℕ → State
-view s context pc left values labels words marks =
+abbrev pub stateWith : State → Context → ℕ → ℕ → List ℕ → List ℕ → List ℕ → List ℕ → State
+stateWith s context pc left values labels words marks =
     stateFrom (record { size = context .size; limit = s .fixed .limit; errorpc = s .fixed .errorpc; count = s .fixed .count; gates = s .fixed .gates })
     (record { pc = pc; pair = context .pair; clock = context .deadline + 1 - left; first = s .control .first; second = s .control .second; end = s .control .end; why = s .control .why })
     values labels words marks
@@ -92,19 +95,45 @@ pub record Ran (before after : State) (deadline left left′ : ℕ) (reason : Re
   pub some : 0 < left → 0 < left′
   pub paused : Paused reason left′ deadline after
 
--- From a place, registers and memory the loop went to r's and these, whatever the rest of the state, where memory is lent
--- whole and it was told the truth.
+-- From a place, registers and memory the loop went to r's and these: where memory is lent too short, nowhere; and else,
+-- if it was told the truth, by steps of the model, whatever the rest of the state.
 pub record Sprinted (context : Context) (start : Place) (values turned words marks : List ℕ) (r : Pause) (values′ words′ : List ℕ) : Type 0 where
+  pub short :
+      lentWhole (context .size) (lent words marks) ≡ false
+      → (r ≡ record { place = start; reason = Out }) × (values′ ≡ values) × (words′ ≡ words)
   pub ran :
-      context .size ≤ length words → context .size ≤ length marks → start .left ≤ context .deadline + 1
+      lentWhole (context .size) (lent words marks) ≡ true → start .left ≤ context .deadline + 1
       → (s : State) (labels : List ℕ) → Mirrors labels turned
-      → Timed (view s context (start .pc) (start .left) values labels words marks) context
-      → Ran (view s context (start .pc) (start .left) values labels words marks)
-      (view s context (r .place .pc) (r .place .left) values′ labels words′ marks) (context .deadline) (start .left) (r .place .left) (r .reason)
+      → Timed (stateWith s context (start .pc) (start .left) values labels words marks) context
+      → Ran (stateWith s context (start .pc) (start .left) values labels words marks)
+      (stateWith s context (r .place .pc) (r .place .left) values′ labels words′ marks) (context .deadline) (start .left) (r .place .left) (r .reason)
 
--- The ticks of the common op in the word w, in every state with this timing label and these registers.
-pub record Timing (w t : ℕ) (values turned : List ℕ) (r : ℕ) : Type 0 where
-  pub is :
-      (s : State) (op : Op) → s .control .pair .timing ≡ t → s .registers .values ≡ values → Mirrors (s .registers .labels) turned
-      → known w (decode (opField w)) ≡ fetched w op → isCommonOp op ≡ true → r ≡ table s w op .ticks
-  pub few : r ≤ 34
+-- ---- the ticks of a common op
+
+-- By the op, by whether its operands may show in the time, and by Rc. Of what is no common op 1 is said.
+abbrev pub commonTicks : Op → Bool → ℕ → ℕ
+commonTicks immediate visible v = 1
+commonTicks (arithmetic f) visible v = arithmeticTicks f visible v
+commonTicks load visible v = 3
+commonTicks store visible v = 3
+commonTicks (branch f) visible v = 1
+commonTicks jump visible v = 1
+commonTicks readClock visible v = 1
+commonTicks (setLabel f) visible v = 1
+commonTicks setPair visible v = 1
+commonTicks upcall visible v = 1
+commonTicks endUpcall visible v = 1
+commonTicks gateCall visible v = 1
+commonTicks gateReturn visible v = 1
+commonTicks halt visible v = 1
+
+-- The same of a word that may have no op.
+abbrev pub fetchedTicks : Fetched → Bool → ℕ → ℕ
+fetchedTicks (failed why) visible v = 1
+fetchedTicks (fetched w op) visible v = commonTicks op visible v
+
+-- The ticks of the word w under the timing label t, with these registers.
+unfoldable pub ticksAt : ℕ → ℕ → List ℕ → List ℕ → ℕ
+ticksAt w t values turned =
+    fetchedTicks (known w (decode (opField w)))
+    (mayGo (bitOr (getD turned (bField w) 0) (getD turned (cField w) 0)) (lacking t)) (getD values (cField w) 0)

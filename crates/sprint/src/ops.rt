@@ -29,8 +29,8 @@ ghost use lib.ListN.{length};
 ghost use Rattle.model.specs.Numbers.{registerCount};
 ghost use Rattle.model.specs.Word.{compute};
 ghost use Rattle.arithmetic.specs.Arithmetic.{arithmeticOf};
-ghost use Rattle.sprint.specs.Sprint.{Timing};
-ghost use Rattle.sprint.specs.Inner.Turns.{going, stopping, gone, Assigned, Combined, Common, Forward};
+ghost use Rattle.sprint.specs.Sprint.{ticksAt};
+ghost use Rattle.sprint.specs.Inner.Turns.{going, stopping, gone, Assigned, Immediate, ClockTurn, Combined, Common, Forward};
 
 // A word without an op.
 const NO_OP: u32 = 0;
@@ -78,6 +78,39 @@ pub(in crate) fn assign(
         return going(spot.pc + 1, ticks);
     }
     stopping(Reason::Late)
+}
+
+// Op 1: register a gets n.
+fn immediate(
+    spot: Spot,
+    pair: Pair,
+    values: &mut [u32; REGISTER_COUNT],
+    turned: &[Bits; TURNED_COUNT],
+) -> Turn
+    requires { ⌜ spot .pc + 1 < 2 ^ 32 ⌝ }
+    ensures { λ r. ⌜ Immediate spot pair (now (values .entry)) (now (turned .entry)) r (now (values .exit)) ⌝ }
+{
+    let a = a_of(spot.word);
+    let ok = may_go(Label(pair.pc).restrictions(), turned[a + REGISTER_COUNT]);
+    assign(values, spot, a, ok, n_of(spot.word), 1)
+}
+
+// Op 14: register a gets the clock, which the ticks that are left tell.
+fn read_clock(
+    spot: Spot,
+    context: Context,
+    values: &mut [u32; REGISTER_COUNT],
+    turned: &[Bits; TURNED_COUNT],
+) -> Turn
+    requires { ⌜ spot .pc + 1 < 2 ^ 32 ⌝ }
+    ensures { λ r. ⌜ ClockTurn context spot (now (values .entry)) (now (turned .entry)) r (now (values .exit)) ⌝ }
+{
+    let pair = context.pair;
+    let a = a_of(spot.word);
+    let held = Label(pair.pc).restrictions() | Label(pair.timing).restrictions();
+    let ok = may_go(held, turned[a + REGISTER_COUNT]);
+    let clock = wrapping_sub_u32(wrapping_add_u32(context.deadline, 1), spot.left);
+    assign(values, spot, a, ok, clock, 1)
 }
 
 // What an arithmetic op computes, where its check passed: a division that isn't put is not done.
@@ -154,14 +187,9 @@ pub(in crate) fn common(
     let p = Label(pair.pc);
     let a = a_of(w);
     let b = b_of(w);
-    let rb = values[b];
-    let lb = turned[b];
     match op_of(w) {
         0 => stopping(Reason::Rest(NO_OP)),
-        1 => {
-            let ok = may_go(p.restrictions(), turned[a + REGISTER_COUNT]);
-            assign(values, spot, a, ok, n_of(w), 1)
-        }
+        1 => immediate(spot, pair, values, turned),
         2 => combine(Arithmetic::Add, spot, pair, values, turned),
         3 => combine(Arithmetic::Subtract, spot, pair, values, turned),
         4 => combine(Arithmetic::And, spot, pair, values, turned),
@@ -172,37 +200,32 @@ pub(in crate) fn common(
         9 => load(spot, context, values, turned, words, marks),
         10 => store(spot, context, values, turned, words, marks),
         11 => {
-            let ok = may_go(turned[a] | lb, p.lacking());
-            go(spot, context.up, ok, values[a] == rb, n_of(w))
+            let ok = may_go(turned[a] | turned[b], p.lacking());
+            go(spot, context.up, ok, values[a] == values[b], n_of(w))
         }
         12 => {
-            let ok = may_go(turned[a] | lb, p.lacking());
-            go(spot, context.up, ok, values[a] < rb, n_of(w))
+            let ok = may_go(turned[a] | turned[b], p.lacking());
+            go(spot, context.up, ok, values[a] < values[b], n_of(w))
         }
         13 => {
-            let ok = may_go(lb, p.lacking());
-            go(spot, context.up, ok, true, rb)
+            let ok = may_go(turned[b], p.lacking());
+            go(spot, context.up, ok, true, values[b])
         }
-        14 => {
-            let held = p.restrictions() | Label(pair.timing).restrictions();
-            let ok = may_go(held, turned[a + REGISTER_COUNT]);
-            let clock = wrapping_sub_u32(wrapping_add_u32(context.deadline, 1), spot.left);
-            assign(values, spot, a, ok, clock, 1)
-        }
+        14 => read_clock(spot, context, values, turned),
         23 => combine(Arithmetic::Divide, spot, pair, values, turned),
         24 => combine(Arithmetic::Remainder, spot, pair, values, turned),
         _ => stopping(Reason::Rest(w)),
     }
 }
 
-// The ticks of the common op of the word w, under the timing label t.
+// The ticks of the common op of the word w, under the timing label t. For any other word it says 1.
 pub fn ticks_at(
     w: u32,
     t: Bits,
     values: &[u32; REGISTER_COUNT],
     turned: &[Bits; TURNED_COUNT],
 ) -> u32
-    ensures { λ r. ⌜ Timing w t (now (values .entry)) (now (turned .entry)) r ⌝ }
+    ensures { λ r. ⌜ r ≡ ticksAt w t (now (values .entry)) (now (turned .entry)) ⌝ }
 {
     let b = b_of(w);
     let c = c_of(w);

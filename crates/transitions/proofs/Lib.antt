@@ -1,2 +1,2 @@
--- Laws that proofs of functions cite: a decision applied, to the control and to the registers.
+-- Laws that proofs in the crates above cite: a decision applied, to the control and to the registers.
 pub mod Applied

@@ -2,7 +2,10 @@
 use labels::Bits;
 use labels::Label;
 use model::Pair;
+use model::numbers::CLOCK_SPENT;
+use model::numbers::HALTED;
 use model::numbers::REGISTER_COUNT;
+use model::numbers::STALLED;
 use parts::live::Frame;
 use parts::live::GATE_CALL;
 use parts::live::Live;
@@ -11,12 +14,8 @@ use parts::live::no_frame;
 use parts::stages::Change;
 use parts::stages::Decision;
 use std::num::wrapping_add_u32;
-ghost use Prim.Native.Nat.{_+_, _<_};
 ghost use mathlib.Core.Path.{_≡_};
-ghost use mathlib.Core.Bool.{cond};
-ghost use lib.ListN.{getD, set};
-ghost use Rattle.labels.specs.Label.{flows};
-ghost use Rattle.transitions.specs.Transitions.{Restored, Changed, After, Labelled, Wrote};
+ghost use Rattle.transitions.specs.Transitions.{moved, entered, opened, restored, ended, changed, closingTick, controlAfter, labelled, caused, writtenBack};
 
 // The register that gets the cause by which an upcall closed.
 const CAUSE_REGISTER: usize = 15;
@@ -25,7 +24,7 @@ const CAUSE_REGISTER: usize = 15;
 
 // At another clock and pc.
 pub fn moved(live: Live, clock: u32, pc: u32) -> Live
-    ensures { λ r. ⌜ r ≡ record { pc = pc; pair = live .pair; clock = clock; newest = live .newest; older = live .older; end = live .end; why = live .why } ⌝ }
+    ensures { λ r. ⌜ r ≡ moved live clock pc ⌝ }
 {
     let mut after = live;
     after.clock = clock;
@@ -35,7 +34,7 @@ pub fn moved(live: Live, clock: u32, pc: u32) -> Live
 
 // At another clock, pc and pair.
 fn entered(live: Live, clock: u32, pc: u32, pair: Pair) -> Live
-    ensures { λ r. ⌜ r ≡ record { pc = pc; pair = pair; clock = clock; newest = live .newest; older = live .older; end = live .end; why = live .why } ⌝ }
+    ensures { λ r. ⌜ r ≡ entered live clock pc pair ⌝ }
 {
     let mut after = live;
     after.clock = clock;
@@ -46,7 +45,7 @@ fn entered(live: Live, clock: u32, pc: u32, pair: Pair) -> Live
 
 // With one more open call.
 fn opened(live: Live, call: Frame) -> Live
-    ensures { λ r. ⌜ r ≡ record { pc = live .pc; pair = live .pair; clock = live .clock; newest = call; older = live .newest; end = live .end; why = live .why } ⌝ }
+    ensures { λ r. ⌜ r ≡ opened live call ⌝ }
 {
     let below = live.newest;
     let mut after = live;
@@ -57,7 +56,7 @@ fn opened(live: Live, call: Frame) -> Live
 
 // At another clock, the newest call closed and its pc and pair restored.
 fn restored(live: Live, clock: u32) -> Live
-    ensures { λ r. ⌜ Restored live clock r × (r .clock ≡ clock) × (r .end ≡ live .end) ⌝ }
+    ensures { λ r. ⌜ r ≡ restored live clock ⌝ }
 {
     let call = live.newest;
     let below = live.older;
@@ -74,7 +73,7 @@ fn restored(live: Live, clock: u32) -> Live
 
 // At another clock, ended.
 fn ended(live: Live, clock: u32, end: u8, why: u8) -> Live
-    ensures { λ r. ⌜ r ≡ record { pc = live .pc; pair = live .pair; clock = clock; newest = live .newest; older = live .older; end = end; why = why } ⌝ }
+    ensures { λ r. ⌜ r ≡ ended live clock end why ⌝ }
 {
     let mut after = live;
     after.clock = clock;
@@ -85,7 +84,7 @@ fn ended(live: Live, clock: u32, end: u8, why: u8) -> Live
 
 // After a change that leaves this clock.
 fn changed(live: Live, clock: u32, change: Change) -> Live
-    ensures { λ r. ⌜ Changed live clock change r ⌝ }
+    ensures { λ r. ⌜ r ≡ changed live clock change ⌝ }
 {
     let pair = live.pair;
     let next = wrapping_add_u32(live.pc, 1);
@@ -113,13 +112,13 @@ fn changed(live: Live, clock: u32, change: Change) -> Live
             entered(opened(live, call), clock, entry, to)
         }
         Change::CloseGate => restored(live, clock),
-        Change::Stop => ended(live, clock, 1, 0),
+        Change::Stop => ended(live, clock, HALTED, 0),
     }
 }
 
 // The tick past an upcall's end tick.
 fn closing_tick(call: Frame, limit: u32) -> u32
-    ensures { λ r. ⌜ (call .end < limit → r ≡ call .end + 1) ⌝ }
+    ensures { λ r. ⌜ r ≡ closingTick call limit ⌝ }
 {
     if call.end < limit as u64 {
         return call.end as u32 + 1;
@@ -129,11 +128,11 @@ fn closing_tick(call: Frame, limit: u32) -> u32
 
 // After a decision.
 pub fn control_after(live: Live, limit: u32, decision: Decision) -> Live
-    ensures { λ r. ⌜ After live limit decision r ⌝ }
+    ensures { λ r. ⌜ r ≡ controlAfter live limit decision ⌝ }
 {
     match decision {
-        Decision::Spend => ended(live, limit, 2, 0),
-        Decision::Stall(why) => ended(live, live.clock, 3, why),
+        Decision::Spend => ended(live, limit, CLOCK_SPENT, 0),
+        Decision::Stall(why) => ended(live, live.clock, STALLED, why),
         Decision::Close(_) => restored(live, closing_tick(live.newest, limit)),
         Decision::Carry(ticks, change) => {
             changed(live, wrapping_add_u32(live.clock, ticks), change)
@@ -145,7 +144,7 @@ pub fn control_after(live: Live, limit: u32, decision: Decision) -> Live
 
 // What a change writes: at most a label of a register.
 fn write_label(change: Change, labels: &mut [Bits; REGISTER_COUNT])
-    ensures { λ r. ⌜ Labelled change (now (labels .entry)) (now (labels .exit)) ⌝ }
+    ensures { λ r. ⌜ now (labels .exit) ≡ labelled change (now (labels .entry)) ⌝ }
 {
     match change {
         Change::Pass => {}
@@ -168,7 +167,7 @@ fn write_cause(
     values: &mut [u32; REGISTER_COUNT],
     labels: &[Bits; REGISTER_COUNT],
 )
-    ensures { λ r. ⌜ now (values .exit) ≡ cond (flows (pair .timing) (getD (now (labels .entry)) 15 0)) (set (now (values .entry)) 15 cause) (now (values .entry)) ⌝ }
+    ensures { λ r. ⌜ now (values .exit) ≡ caused cause pair (now (values .entry)) (now (labels .entry)) ⌝ }
 {
     if Label(pair.timing).flows_to(Label(labels[CAUSE_REGISTER])) {
         values[CAUSE_REGISTER] = cause as u32;
@@ -182,7 +181,7 @@ pub fn write_back(
     values: &mut [u32; REGISTER_COUNT],
     labels: &mut [Bits; REGISTER_COUNT],
 )
-    ensures { λ r. ⌜ Wrote decision live (now (values .entry)) (now (labels .entry)) (now (values .exit)) (now (labels .exit)) ⌝ }
+    ensures { λ r. ⌜ record { values = now (values .exit); labels = now (labels .exit) } ≡ writtenBack decision live (record { values = now (values .entry); labels = now (labels .entry) }) ⌝ }
 {
     let pair = live.pair;
     match decision {

@@ -1,5 +1,6 @@
 -- `decisions::in_limit` meets its contract.
 -- Assumes nothing.
+use native.Mathlib.Omega.{arith}
 use borrow.Author.Needs.{needs}
 use Rattle.decisions.proofs.Limiting.{limited-spend, limited-stall, limited-reached, limited-close, limited-barred, limited-carry, limited-over}
 use Rattle.decisions.proofs.in_limit.Statement.{statement}
@@ -33,7 +34,7 @@ returns-2 : tie.Need-returns-2
 returns-2 c = limited-stall (c .if1 .taken) (c .before .before .decision .given .1)
 
 returns-3 : tie.Need-returns-3
-returns-3 c = limited-reached (c .if1 .left)
+returns-3 c = limited-reached (c .if1 .left) (c .before .before .decision .given .1)
 
 returns-4 : tie.Need-returns-4
 returns-4 c = limited-close (c .if2 .taken) (c .before .before .before .decision2 .given .1)
@@ -42,7 +43,7 @@ returns-5 : tie.Need-returns-5
 returns-5 c = limited-barred (c .if2 .left) (c .before .before .before .decision2 .given .1)
 
 returns-6 : tie.Need-returns-6
-returns-6 c = limited-carry (c .if3 .taken) (c .before .before .decision3 .given .1)
+returns-6 c = limited-carry (omega (arith, c .if3 .taken)) (c .before .before .decision3 .given .1)
 
 returns-7 : tie.Need-returns-7
 returns-7 c = limited-over (c .if3 .left) (c .before .before .decision3 .given .1)

@@ -10,10 +10,10 @@ is-upcall-requires : tie.Need-is-upcall-requires
 is-upcall-requires c κs = search needs
 
 returns : tie.Need-returns
-returns c fixed values labels = late-closes (sym (c .before .is-upcall .ensures) ∙ c .if1 .taken)
+returns c reason fixed values labels = late-closes (sym (c .before .is-upcall .ensures) ∙ c .if1 .taken)
 
 returns-2 : tie.Need-returns-2
-returns-2 c fixed values labels = late-spends (sym (c .before .is-upcall .ensures) ∙ c .if1 .left)
+returns-2 c reason fixed values labels = late-spends (sym (c .before .is-upcall .ensures) ∙ c .if1 .left)
 
 pub late-spec : {M : Type 1} → statement M
 late-spec = tie.close (tie.spec is-upcall-requires returns returns-2)

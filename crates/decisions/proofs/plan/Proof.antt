@@ -2,7 +2,6 @@
 -- Assumes nothing.
 use mathlib.Core.Path.{refl}
 use borrow.Author.Needs.{needs}
-use Rattle.decisions.proofs.Deciding.{planned-out, planned-failed, planned-as, left-rest}
 use Rattle.decisions.proofs.plan.Statement.{statement}
 use Rattle.decisions.proofs.plan.Tie as tie
 
@@ -30,6 +29,9 @@ fault-requires-2 c κs = search needs
 enum-told-5 : tie.Need-enum-told-5
 enum-told-5 c = search needs
 
+fault-requires-3 : tie.Need-fault-requires-3
+fault-requires-3 c κs = search needs
+
 enum-known-reason : tie.Need-enum-known-reason
 enum-known-reason c = search needs
 
@@ -37,22 +39,22 @@ rest-requires : tie.Need-rest-requires
 rest-requires c κs = search needs
 
 returns : tie.Need-returns
-returns c = planned-out (c .enum-told .given .1) refl
+returns c = rw (c .enum-told .given .1) (record { is = λ words marks. refl; ready = tt; suits = λ left. tt })
 
 returns-2 : tie.Need-returns-2
-returns-2 c = planned-as (λ s. rw (c .before .enum-told2 .given .1)) (λ k. c .late .ensures _ _ _)
+returns-2 c = rw (c .before .enum-told2 .given .1) (c .late .ensures _ _ _ _)
 
 returns-3 : tie.Need-returns-3
-returns-3 c = planned-as (λ s. rw (c .before .enum-told3 .given .1)) (λ k. c .fault .ensures _ _ _ refl)
+returns-3 c = rw (c .before .enum-told3 .given .1) (c .fault .ensures _ _ _ _ refl)
 
 returns-4 : tie.Need-returns-4
-returns-4 c = planned-as (λ s. rw (c .before .enum-told4 .given .1)) (λ k. c .fault2 .ensures _ _ _ refl)
+returns-4 c = rw (c .before .enum-told4 .given .1) (c .fault2 .ensures _ _ _ _ refl)
 
 returns-5 : tie.Need-returns-5
-returns-5 c = planned-failed (c .enum-told5 .given .1) refl
+returns-5 c = rw (c .before .enum-told5 .given .1) (c .fault3 .ensures _ _ _ _ refl)
 
 returns-6 : tie.Need-returns-6
-returns-6 c = planned-as (λ s. rw (c .before .before .reason .given .1)) (λ k. let l = left-rest _ (c .before .before .reason .given .1) (k .left) in c .rest .ensures (k .gates) (l .1) (l .0))
+returns-6 c = rw (c .before .before .reason .given .1) (c .rest .ensures)
 
 pub plan-spec : {M : Type 1} → statement M
 plan-spec =
@@ -66,6 +68,7 @@ plan-spec =
     enum-told-4
     fault-requires-2
     enum-told-5
+    fault-requires-3
     enum-known-reason
     rest-requires
     returns

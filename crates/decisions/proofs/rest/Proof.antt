@@ -59,38 +59,38 @@ fault-requires c κs = search needs
 
 returns : tie.Need-returns
 unfolding decode table
-returns c g p f = op-changes _ (c .before .before .before .op-of .ensures) (c .before .before .match .keys1) refl (c .before .set-label .ensures _) (c .in-time .ensures) p (omega arith) (λ s. (refl, refl, refl))
+returns c = op-changes _ (c .before .before .before .op-of .ensures) (c .before .before .match .keys1) refl refl (c .before .set-label .ensures _) (c .in-time .ensures) (omega arith) (λ s. (refl, refl, refl))
 
 returns-2 : tie.Need-returns-2
 unfolding decode table
-returns-2 c g p f = op-changes _ (c .before .before .before .op-of .ensures) (c .before .before .match .keys2) refl (c .before .set-label2 .ensures _) (c .in-time2 .ensures) p (omega arith) (λ s. (refl, refl, refl))
+returns-2 c = op-changes _ (c .before .before .before .op-of .ensures) (c .before .before .match .keys2) refl refl (c .before .set-label2 .ensures _) (c .in-time2 .ensures) (omega arith) (λ s. (refl, refl, refl))
 
 returns-3 : tie.Need-returns-3
 unfolding decode table
-returns-3 c g p f = op-changes _ (c .before .before .before .op-of .ensures) (c .before .before .match .keys3) refl (c .before .set-pair .ensures _) (c .in-time3 .ensures) p (omega arith) (λ s. (refl, refl, refl))
+returns-3 c = op-changes _ (c .before .before .before .op-of .ensures) (c .before .before .match .keys3) refl refl (c .before .set-pair .ensures _) (c .in-time3 .ensures) (omega arith) (λ s. (refl, refl, refl))
 
 returns-4 : tie.Need-returns-4
 unfolding decode table
-returns-4 c g p f = op-changes _ (c .before .before .before .op-of .ensures) (c .before .before .match .keys4) refl (c .before .upcall .ensures _) (c .in-time4 .ensures) p (omega arith) (λ s. (refl, refl, refl))
+returns-4 c = op-changes _ (c .before .before .before .op-of .ensures) (c .before .before .match .keys4) refl refl (c .before .upcall .ensures _) (c .in-time4 .ensures) (omega arith) (λ s. (refl, refl, refl))
 
 returns-5 : tie.Need-returns-5
-unfolding decode table
-returns-5 c g p f = op-decides _ (c .before .before .op-of .ensures) (c .before .match .keys5) refl (c .end-upcall .ensures p)
+unfolding decode
+returns-5 c = op-decides _ (c .before .before .op-of .ensures) (c .before .match .keys5) refl refl (c .end-upcall .ensures _ _ _ _)
 
 returns-6 : tie.Need-returns-6
 unfolding decode table
-returns-6 c g p f = op-changes _ (c .before .before .before .op-of .ensures) (c .before .before .match .keys6) refl (c .before .call-gate .ensures g) (c .in-time5 .ensures) p (omega arith) (λ s. (refl, refl, refl))
+returns-6 c = op-changes _ (c .before .before .before .op-of .ensures) (c .before .before .match .keys6) refl refl (c .before .call-gate .ensures) (c .in-time5 .ensures) (omega arith) (λ s. (refl, refl, refl))
 
 returns-7 : tie.Need-returns-7
 unfolding decode table
-returns-7 c g p f = op-changes _ (c .before .before .before .op-of .ensures) (c .before .before .match .keys7) refl (c .before .return-gate .ensures _ _ _ _) (c .in-time6 .ensures) p (omega arith) (λ s. (refl, refl, refl))
+returns-7 c = op-changes _ (c .before .before .before .op-of .ensures) (c .before .before .match .keys7) refl refl (c .before .return-gate .ensures _ _ _ _) (c .in-time6 .ensures) (omega arith) (λ s. (refl, refl, refl))
 
 returns-8 : tie.Need-returns-8
-unfolding decode table
-returns-8 c g p f = op-decides _ (c .before .before .op-of .ensures) (c .before .match .keys8) refl (c .halt .ensures)
+unfolding decode
+returns-8 c = op-decides _ (c .before .before .op-of .ensures) (c .before .match .keys8) refl refl (c .halt .ensures _ _ _ _)
 
 returns-9 : tie.Need-returns-9
-returns-9 c g p f = op-unknown _ (c .before .before .op-of .ensures) f (c .before .match .rest) (c .fault .ensures _ _ _ refl)
+returns-9 c = op-unknown _ (c .before .before .op-of .ensures) (c .before .match .rest) (c .fault .ensures _ _ _ _ refl)
 
 pub rest-spec : {M : Type 1} → statement M
 rest-spec =

@@ -10,14 +10,14 @@ use Rattle.model.specs.Word as words
 use Rattle.model.specs.Ops as ops
 use Rattle.model.specs.Step as model
 use Rattle.parts.specs.declared.live.Live.{Live}
-use Rattle.parts.specs.Live.{callOf, controlOf, Stacked}
+use Rattle.parts.specs.Live.{callOf, controlOf}
 use Rattle.parts.specs.declared.stages.Change.{Change}
 use Rattle.parts.specs.declared.stages.Decision.{Decision}
 use Rattle.parts.specs.declared.stages.Decision.the-variants.{Spend, Stall, Close, Carry}
+use Rattle.parts.specs.declared.stages.Reason.{Reason}
+use Rattle.parts.specs.Stages.{changeOf, decisionOf, Left, Fits, Applies}
 use Rattle.decisions.specs.declared.rows.Rule.{Rule}
 use Rattle.decisions.specs.declared.rows.Rule.the-variants.{Raise, Relabel}
-use Rattle.parts.specs.declared.stages.Reason.{Reason}
-use Rattle.parts.specs.Stages.{changeOf, decisionOf, planFor, Decidable, Fits, Applies}
 
 -- The model's rule that a rule is.
 abbrev pub ruleOf : Rule → words.Rule
@@ -33,45 +33,44 @@ changeIn ops.ends = ops.write ops.nothing
 abbrev pub Does : ops.Row → Change → Type 0
 Does row r = changeOf r ≡ cond (row .check) (changeIn (row .effect)) (ops.write ops.nothing)
 
--- The change is that of the op in the word w, in every state with this control and these registers. It fits where it is
--- carried out in so many ticks.
+-- The change is that of the op in the word w, in every state with this control and these registers. Where there is a
+-- next pc, it fits if it is carried out in so many ticks.
 pub record Changes (op : words.Op) (w ticks : ℕ) (fixed : Fixed) (live : Live) (values labels : List ℕ) (r : Change) : Type 0 where
-  pub is :
-      Stacked live → (words marks : List ℕ)
-      → Does (ops.table (stateFrom fixed (controlOf live) values labels words marks) w op) r
+  pub is : (words marks : List ℕ) → Does (ops.table (stateFrom fixed (controlOf live) values labels words marks) w op) r
   pub fits : live .pc + 1 < 2 ^ 32 → Fits r live (live .clock + ticks)
 
--- It can be applied, but for the limit.
+-- What it closes is an upcall, and what it carries out takes a tick or more, and in an upcall finishes by its end tick.
+-- This holds whether there is a next pc or not, so that the limit can be looked at in every state.
 abbrev pub Ready : Decision → Live → Type 0
 Ready Spend l = Unit
 Ready (Stall why) l = Unit
 Ready (Close cause) l = isUpcall (callOf (l .newest)) ≡ true
-Ready (Carry ticks change) l =
-    (1 ≤ ticks) × (isUpcall (callOf (l .newest)) ≡ true → l .clock + ticks ≤ l .newest .end) × Fits change l (l .clock + ticks)
+Ready (Carry ticks change) l = (1 ≤ ticks) × (isUpcall (callOf (l .newest)) ≡ true → l .clock + ticks ≤ l .newest .end)
 
--- The decision is this one of the model, in every such state, and can be applied but for the limit.
-pub record Decides (d : State → model.Decision) (fixed : Fixed) (live : Live) (values labels : List ℕ) (r : Decision) : Type 0 where
-  pub is : Stacked live → (words marks : List ℕ) → decisionOf r ≡ d (stateFrom fixed (controlOf live) values labels words marks)
-  pub ready : Stacked live → Ready r live
+-- The change that it carries out fits, for which some ask for a next pc.
+abbrev pub Suits : Decision → Live → Type 0
+Suits Spend l = Unit
+Suits (Stall why) l = Unit
+Suits (Close cause) l = Unit
+Suits (Carry ticks change) l = Fits change l (l .clock + ticks)
+
+-- The decision for a reason to stop is this one of the model, in every such state. It can be applied, but for the limit.
+pub record Decides (reason : Reason) (d : State → model.Decision) (fixed : Fixed) (live : Live) (values labels : List ℕ) (r : Decision) : Type 0 where
+  pub is : (words marks : List ℕ) → decisionOf r ≡ d (stateFrom fixed (controlOf live) values labels words marks)
+  pub ready : Ready r live
+  pub suits : Left reason (live .pc) → Suits r live
 
 -- A change in so many ticks, unless it finishes past the end tick of the upcall.
 pub record InTime (live : Live) (ticks : ℕ) (change : Change) (r : Decision) : Type 0 where
   pub is :
-      Stacked live → (fixed : Fixed) (values labels words marks : List ℕ)
+      (fixed : Fixed) (values labels words marks : List ℕ)
       → decisionOf r ≡ model.inTime (stateFrom fixed (controlOf live) values labels words marks) (model.carry ticks (changeOf change))
-  pub ready : Stacked live → 1 ≤ ticks → Fits change live (live .clock + ticks) → Ready r live
-
--- The decision for a reason to stop is what is planned, and can be applied but for the limit.
-pub record Planned (reason : Reason) (fixed : Fixed) (live : Live) (values labels : List ℕ) (r : Decision) : Type 0 where
-  pub is :
-      Decidable reason fixed live → (words marks : List ℕ)
-      → decisionOf r ≡ planFor reason (stateFrom fixed (controlOf live) values labels words marks)
-  pub ready : Decidable reason fixed live → Ready r live
+  pub ready : 1 ≤ ticks → Ready r live
+  pub suits : Fits change live (live .clock + ticks) → Suits r live
 
 -- A decision held against the limit.
 pub record Limited (d : Decision) (live : Live) (limit : ℕ) (r : Decision) : Type 0 where
   pub is :
-      Stacked live → (fixed : Fixed) (values labels words marks : List ℕ) → fixed .limit ≡ limit
-      → let s = stateFrom fixed (controlOf live) values labels words marks in
-      live .clock ≤ limit → Ready d live → decisionOf r ≡ model.inLimit s (decisionOf d)
-  pub applies : Ready d live → Applies r live limit
+      Ready d live → (fixed : Fixed) (values labels words marks : List ℕ) → fixed .limit ≡ limit
+      → decisionOf r ≡ model.inLimit (stateFrom fixed (controlOf live) values labels words marks) (decisionOf d)
+  pub applies : Ready d live → Suits d live → Applies r live limit

@@ -1,34 +1,26 @@
+-- `engine::advance` meets its contract.
+-- Assumes nothing.
 use borrow.Author.Needs.{needs}
 use mathlib.Core.Path.{sym, _∙_}
-use Rattle.engine.proofs.Driving.{fit-of}
+use Rattle.engine.proofs.Driving.{ranges-of}
 use Rattle.engine.proofs.advance.Statement.{statement}
 use Rattle.engine.proofs.advance.Tie as tie
-use Rattle.engine.proofs.advance.Reads as reads
-use Rattle.engine.proofs.advance.Lts as lts
-use Rattle.engine.proofs.drive.drive.Reads as drive-reads
-use Rattle.engine.proofs.is_fitting.Reads as is-fitting-reads
 
--- src/lib.rt:91:8
 is-fitting-requires : tie.Need-is-fitting-requires
 is-fitting-requires c κs = search needs
 
--- src/lib.rt:92:9
 drive-requires : tie.Need-drive-requires
-drive-requires c κs = fit-of _ _ _ _ (sym (c .before .before .before .before .is-fitting .ensures) ∙ c .before .before .before .if1 .taken)
+drive-requires c κs = ranges-of _ _ _ _ (sym (c .before .before .before .before .is-fitting .ensures) ∙ c .before .before .before .if1 .taken)
 
--- src/lib.rt:92:9
 same-length : tie.Need-same-length
 same-length c = search needs
 
--- src/lib.rt:92:9
 returns : tie.Need-returns
 returns c = rw (← c .before .before .before .before .before .before .before .is-fitting .ensures, c .before .before .before .before .before .before .if1 .taken) (c .before .before .drive .ensures)
 
--- src/lib.rt:80:1
 same-length-2 : tie.Need-same-length-2
 same-length-2 c = search needs
 
--- src/lib.rt:80:1
 returns-2 : tie.Need-returns-2
 returns-2 c = rw (← c .before .is-fitting .ensures, c .if1 .left)
 

@@ -22,7 +22,7 @@ use Rattle.parts.specs.declared.stages.Decision.the-variants.{Spend, Stall, Clo
 use Rattle.parts.specs.Calls.{newestOf, nearer}
 use Rattle.parts.specs.Live.{callOf, stacks}
 use Rattle.sprint.specs.declared.Context.{Context}
-use Rattle.sprint.specs.Sprint.{Timing}
+use Rattle.sprint.specs.Inner.Turns.{Timing}
 use Rattle.engine.specs.declared.Pace.{Pace}
 use Rattle.engine.specs.declared.Pace.the-variants.{Once, Onward, Stride}
 use Rattle.engine.specs.declared.Task.{Task}
@@ -49,7 +49,7 @@ tickOf (Onward k) limit = nearer k limit
 tickOf Stride limit = limit
 
 -- What the steps ask: the ranges of the record, memory that is lent whole, and calls as a machine stacks them.
-pub record Fit (fixed : Fixed) (control : Control) (words marks : List ℕ) : Type 0 where
+pub record InRanges (fixed : Fixed) (control : Control) (words marks : List ℕ) : Type 0 where
   pub size : fixed .size ≤ mostWords
   pub limit : fixed .limit ≤ mostTicks
   pub gates : fixed .count ≤ mostGates

@@ -7,7 +7,8 @@ use lib.ListN.{length}
 use denote.Ref.{now}
 use borrow.Author.Needs.{needs}
 use Rattle.parts.specs.declared.stages.Reason.the-variants.{Outside, Unreadable}
-use Rattle.sprint.specs.Sprint.{view}
+use Rattle.model.proofs.Ready.{whole-lengths}
+use Rattle.sprint.specs.Sprint.{stateWith}
 use Rattle.sprint.proofs.Loop.{Runs, Does, runs-none, runs-more, ran-out, stopped, stopped-turn, outside, not-readable, readable, too-short, lent-whole}
 use Rattle.sprint.proofs.sprint.Statement.{statement}
 use Rattle.sprint.proofs.sprint.Tie as tie
@@ -40,8 +41,7 @@ fetched c = c .before .before .before .before
 lent : (c : tie.At-loop Inv-loop μ-loop)
     → (started c .args .context .size ≤ length (c .loop .words)) × (started c .args .context .size ≤ length (now (started c .args .marks)))
 lent c =
-    let whole = lent-whole (now (started c .args .words)) (now (started c .args .marks)) (told c .before .before .index .ensures) (c .before .if1 .left) in
-    (omega (arith, whole, c .loop .inv .long), whole .1)
+    let whole = whole-lengths (started c .args .context .size) _ (c .loop .inv .whole) in (omega (arith, whole, c .loop .inv .long), whole .1)
 
 -- What the turn of the fetched word does.
 turned : (c : tie.After-common Inv-loop μ-loop)
@@ -56,7 +56,7 @@ turned c s labels m b t =
     let args = started here .args in
     c .common .ensures .0 s labels m b t
     (readable
-    (view s (args .context) (here .loop .pc) (here .loop .left) (here .loop .values) labels (here .loop .words) (now (args .marks)))
+    (stateWith s (args .context) (here .loop .pc) (here .loop .left) (here .loop .values) labels (here .loop .words) (now (args .marks)))
     (at .index2 .ensures) (at .before .if2 .left) (omega (arith, at .before .before .struct-known .given)) (told here .lacking .ensures)
     (test .before .restrictions .ensures) (test .may-go .ensures) (fetched c .if3 .taken))
 
@@ -72,10 +72,10 @@ pausing-requires : tie.Need-pausing-requires Inv-loop μ-loop
 pausing-requires c κs = search needs
 
 returns : tie.Need-returns Inv-loop μ-loop
-returns c = too-short (c .before .before .before .before .index .ensures) (c .before .if1 .taken)
+returns c = too-short (c .before .before .before .before .index .ensures) (c .before .if1 .taken) (c .pausing .ensures)
 
 loop-holds : tie.Need-loop-holds Inv-loop μ-loop
-loop-holds c = runs-none
+loop-holds c = runs-none (lent-whole _ _ (c .before .before .before .index .ensures) (c .if1 .left))
 
 pausing-requires-2 : tie.Need-pausing-requires-2 Inv-loop μ-loop
 pausing-requires-2 c κs = search needs

@@ -1,6 +1,6 @@
 -- One turn of the hot loop, as its functions promise it: by equation with what a step of the model does.
 -- Assumes nothing.
-use Prim.Native.Nat.{ℕ, _+_, _≤_, _<_}
+use Prim.Native.Nat.{ℕ, _+_, _%_, _^_, _≤_, _<_}
 use mathlib.Core.Path.{_≡_}
 use mathlib.Core.Bool.{Bool, true, false, not, _&&_, cond}
 use mathlib.Core.List.{List}
@@ -12,16 +12,17 @@ use Rattle.labels.specs.Label.{restrictions, lacking}
 use Rattle.model.specs.declared.Pair.{Pair}
 use Rattle.model.specs.Numbers.{registerCount}
 use Rattle.model.specs.Record.{State, stateFrom}
-use Rattle.model.specs.Word.{Arithmetic, opField, aField, bField, cField, decode, compute}
-use Rattle.model.specs.Ops.{writable, arithmeticTicks}
-use Rattle.model.specs.Step.{known, fetch, step, moved}
+use Rattle.model.specs.Word.{Arithmetic, Op, opField, aField, bField, cField, nField, decode, compute}
+use Rattle.model.specs.Ops.{writable, arithmeticTicks, table}
+use Rattle.model.specs.Step.{fetched, known, fetch, step, moved}
+use Rattle.parts.specs.Stages.{isCommonOp}
 use Rattle.parts.specs.declared.stages.Reason.{Reason}
 use Rattle.parts.specs.declared.stages.Reason.the-variants.{Out, Late, Failed}
 use Rattle.sprint.specs.declared.Context.{Context}
 use Rattle.sprint.specs.declared.Spot.{Spot}
 use Rattle.sprint.specs.declared.Turn.{Turn}
 use Rattle.sprint.specs.Skim.{isCommon}
-use Rattle.sprint.specs.Sprint.{Mirrors, view, Timed, Stopped}
+use Rattle.sprint.specs.Sprint.{Mirrors, stateWith, Timed, Stopped}
 
 -- ---- what the leaves answer
 
@@ -47,6 +48,22 @@ gone spot up ok taken target =
 pub record Assigned (before : List ℕ) (a : ℕ) (ok : Bool) (v ticks : ℕ) (spot : Spot) (r : Turn) (after : List ℕ) : Type 0 where
   pub turn : r ≡ timed ticks (spot .pc + 1) (spot .left)
   pub values : after ≡ cond (ltb ticks (spot .left)) (cond (ok && writable a) (set before a v) before) before
+
+-- Op 1: register a got n.
+abbrev pub Immediate : Spot → Pair → List ℕ → List ℕ → Turn → List ℕ → Type 0
+Immediate spot pair before turned r after =
+    let w = spot .word in
+    Assigned before (aField w) (mayGo (restrictions (pair .pc)) (getD turned (aField w + registerCount) 0)) (nField w) 1 spot r after
+
+-- Op 14: register a got the clock, which makes the deadline's next tick with the ticks that are left, in 32 bits.
+pub record ClockTurn (context : Context) (spot : Spot) (before turned : List ℕ) (r : Turn) (after : List ℕ) : Type 0 where
+  pub clock : ℕ
+  pub short : clock < 2 ^ 32
+  pub counted : (clock + spot .left) % 2 ^ 32 ≡ (context .deadline + 1) % 2 ^ 32
+  pub assigned :
+      let a = aField (spot .word) in
+      let held = bitOr (restrictions (context .pair .pc)) (restrictions (context .pair .timing)) in
+      Assigned before a (mayGo held (getD turned (a + registerCount) 0)) clock 1 spot r after
 
 -- An arithmetic op: register a got what f computes from the registers b and c, as the model's row has it.
 abbrev pub Combined : Arithmetic → Spot → Pair → List ℕ → List ℕ → Turn → List ℕ → Type 0
@@ -110,9 +127,18 @@ pub record Did (s : State) (deadline left : ℕ) (r : Turn) (values words : List
 abbrev pub Common : Context → Spot → List ℕ → List ℕ → List ℕ → List ℕ → Turn → List ℕ → List ℕ → Type 0
 Common context spot values turned words marks r values′ words′ =
     (s : State) (labels : List ℕ) → Mirrors labels turned → spot .left ≤ context .deadline + 1
-    → let v = view s context (spot .pc) (spot .left) values labels words marks in
+    → let v = stateWith s context (spot .pc) (spot .left) values labels words marks in
     Timed v context → fetch v ≡ known (spot .word) (decode (opField (spot .word))) → Did v (context .deadline) (spot .left) r values′ words′
 
 -- A turn that did a step took a tick or more, and fewer than were left, whatever the state.
 abbrev pub Forward : Spot → Turn → Type 0
 Forward spot r = r .done ≡ true → (0 < r .ticks) × (r .ticks < spot .left)
+
+-- ---- the ticks of an op that is looked at alone
+
+-- The ticks of the common op in the word w, in every state with this timing label and these registers.
+pub record Timing (w t : ℕ) (values turned : List ℕ) (r : ℕ) : Type 0 where
+  pub is :
+      (s : State) (op : Op) → s .control .pair .timing ≡ t → s .registers .values ≡ values → Mirrors (s .registers .labels) turned
+      → known w (decode (opField w)) ≡ fetched w op → isCommonOp op ≡ true → r ≡ table s w op .ticks
+  pub few : r ≤ 34

@@ -1,8 +1,7 @@
 -- `transitions::changed` meets its contract.
 -- Assumes nothing.
-use mathlib.Core.Path.{refl}
 use borrow.Author.Needs.{needs}
-use Rattle.transitions.proofs.Applied.{changed-pass, changed-label, changed-goto, changed-enter, changed-upcall, changed-gate, changed-close, changed-stop}
+use Rattle.transitions.specs.Transitions.{changed}
 use Rattle.transitions.proofs.changed.Statement.{statement}
 use Rattle.transitions.proofs.changed.Tie as tie
 
@@ -64,28 +63,36 @@ ended-requires : tie.Need-ended-requires
 ended-requires c κs = search needs
 
 returns : tie.Need-returns
-returns c = changed-pass (c .before .enum-told .given .1) (c .before .before .before .wrapping-add-u32 .ensures) (c .moved .ensures)
+unfolding changed
+returns c = rw (c .before .enum-told .given .1, c .moved .ensures, c .before .before .before .wrapping-add-u32 .ensures)
 
 returns-2 : tie.Need-returns-2
-returns-2 c = changed-label (c .before .enum-told2 .given .1) (c .before .before .before .wrapping-add-u32 .ensures) (c .moved2 .ensures)
+unfolding changed
+returns-2 c = rw (c .before .enum-told2 .given .1, c .moved2 .ensures, c .before .before .before .wrapping-add-u32 .ensures)
 
 returns-3 : tie.Need-returns-3
-returns-3 c = changed-goto (c .before .before .change .given .1) (c .moved3 .ensures)
+unfolding changed
+returns-3 c = rw (c .before .before .change .given .1, c .moved3 .ensures)
 
 returns-4 : tie.Need-returns-4
-returns-4 c = changed-enter (c .before .before .change2 .given .1) (c .before .before .before .before .wrapping-add-u32 .ensures) (c .entered .ensures)
+unfolding changed
+returns-4 c = rw (c .before .before .change2 .given .1, c .entered .ensures, c .before .before .before .before .wrapping-add-u32 .ensures)
 
 returns-5 : tie.Need-returns-5
-returns-5 c = changed-upcall (c .before .before .before .change3 .given .1) (c .before .before .before .before .before .wrapping-add-u32 .ensures) refl (c .before .opened .ensures) (c .entered2 .ensures)
+unfolding changed
+returns-5 c = rw (c .before .before .before .change3 .given .1, c .entered2 .ensures, c .before .opened .ensures, c .before .before .before .before .before .wrapping-add-u32 .ensures)
 
 returns-6 : tie.Need-returns-6
-returns-6 c = changed-gate (c .before .before .before .change4 .given .1) (c .before .before .before .before .before .wrapping-add-u32 .ensures) refl (c .before .opened2 .ensures) (c .entered3 .ensures)
+unfolding changed
+returns-6 c = rw (c .before .before .before .change4 .given .1, c .entered3 .ensures, c .before .opened2 .ensures, c .before .before .before .before .before .wrapping-add-u32 .ensures)
 
 returns-7 : tie.Need-returns-7
-returns-7 c = changed-close (c .before .enum-told3 .given .1) (c .restored .ensures)
+unfolding changed
+returns-7 c = rw (c .before .enum-told3 .given .1, c .restored .ensures)
 
 returns-8 : tie.Need-returns-8
-returns-8 c = changed-stop (c .before .enum-told4 .given .1) (c .ended .ensures)
+unfolding changed
+returns-8 c = rw (c .before .enum-told4 .given .1, c .ended .ensures)
 
 pub changed-spec : {M : Type 1} → statement M
 changed-spec =

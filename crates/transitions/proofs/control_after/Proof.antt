@@ -1,8 +1,7 @@
 -- `transitions::control_after` meets its contract.
 -- Assumes nothing.
-use native.Mathlib.Omega.{arith}
 use borrow.Author.Needs.{needs}
-use Rattle.transitions.proofs.Applied.{after-spend, after-stall, after-close, after-carry}
+use Rattle.transitions.specs.Transitions.{controlAfter}
 use Rattle.transitions.proofs.control_after.Statement.{statement}
 use Rattle.transitions.proofs.control_after.Tie as tie
 
@@ -37,16 +36,20 @@ changed-requires : tie.Need-changed-requires
 changed-requires c κs = search needs
 
 returns : tie.Need-returns
-returns c = after-spend (c .before .enum-told .given .1) (c .ended .ensures)
+unfolding controlAfter
+returns c = rw (c .before .enum-told .given .1, c .ended .ensures)
 
 returns-2 : tie.Need-returns-2
-returns-2 c = after-stall (c .before .before .decision .given .1) (c .ended2 .ensures)
+unfolding controlAfter
+returns-2 c = rw (c .before .before .decision .given .1, c .ended2 .ensures)
 
 returns-3 : tie.Need-returns-3
-returns-3 c = after-close (c .before .before .enum-told2 .given .1) (c .before .closing-tick .ensures) (c .restored .ensures)
+unfolding controlAfter
+returns-3 c = rw (c .before .before .enum-told2 .given .1, c .restored .ensures, c .before .closing-tick .ensures)
 
 returns-4 : tie.Need-returns-4
-returns-4 c = after-carry (c .before .before .before .decision2 .given .1) (c .before .wrapping-add-u32 .ensures) (omega (arith, c .before .before .before .before .before .fits)) (c .changed .ensures)
+unfolding controlAfter
+returns-4 c = rw (c .before .before .before .decision2 .given .1, c .changed .ensures, c .before .wrapping-add-u32 .ensures)
 
 pub control-after-spec : {M : Type 1} → statement M
 control-after-spec =

@@ -1,8 +1,7 @@
 -- `transitions::write_back` meets its contract.
 -- Assumes nothing.
 use borrow.Author.Needs.{needs}
-use Rattle.model.specs.Step.{writeOf}
-use Rattle.transitions.proofs.Applied.{wrote-none, wrote-cause, wrote-label}
+use Rattle.transitions.specs.Transitions.{writtenBack}
 use Rattle.transitions.proofs.write_back.Statement.{statement}
 use Rattle.transitions.proofs.write_back.Tie as tie
 
@@ -25,18 +24,20 @@ write-label-requires : tie.Need-write-label-requires
 write-label-requires c κs = search needs
 
 returns : tie.Need-returns
-unfolding writeOf
-returns c = wrote-none (λ s. rw (c .enum-told .given .1))
+unfolding writtenBack
+returns c = rw (c .enum-told .given .1)
 
 returns-2 : tie.Need-returns-2
-unfolding writeOf
-returns-2 c = wrote-none (λ s. rw (c .enum-told2 .given .1))
+unfolding writtenBack
+returns-2 c = rw (c .enum-told2 .given .1)
 
 returns-3 : tie.Need-returns-3
-returns-3 c = wrote-cause (c .before .before .before .before .decision .given .1) (c .write-cause .ensures)
+unfolding writtenBack
+returns-3 c = rw (c .before .before .before .before .decision .given .1, c .write-cause .ensures)
 
 returns-4 : tie.Need-returns-4
-returns-4 c = wrote-label (c .before .before .before .decision2 .given .1) (c .write-label .ensures)
+unfolding writtenBack
+returns-4 c = rw (c .before .before .before .decision2 .given .1, c .write-label .ensures)
 
 pub write-back-spec : {M : Type 1} → statement M
 write-back-spec =

@@ -1,7 +1,6 @@
 -- `transitions::write_label` meets its contract.
 -- Assumes nothing.
 use borrow.Author.Needs.{needs}
-use Rattle.transitions.proofs.Applied.{labelled-none, labelled-set}
 use Rattle.transitions.proofs.write_label.Statement.{statement}
 use Rattle.transitions.proofs.write_label.Tie as tie
 
@@ -33,28 +32,28 @@ enum-told-7 : tie.Need-enum-told-7
 enum-told-7 c = search needs
 
 returns : tie.Need-returns
-returns c = labelled-none (rw (c .enum-told .given .1))
+returns c = search needs
 
 returns-2 : tie.Need-returns-2
-returns-2 c = labelled-set (c .before .change .given .1)
+returns-2 c = rw (c .before .change .given .1)
 
 returns-3 : tie.Need-returns-3
-returns-3 c = labelled-none (rw (c .enum-told2 .given .1))
+returns-3 c = search needs
 
 returns-4 : tie.Need-returns-4
-returns-4 c = labelled-none (rw (c .enum-told3 .given .1))
+returns-4 c = search needs
 
 returns-5 : tie.Need-returns-5
-returns-5 c = labelled-none (rw (c .enum-told4 .given .1))
+returns-5 c = search needs
 
 returns-6 : tie.Need-returns-6
-returns-6 c = labelled-none (rw (c .enum-told5 .given .1))
+returns-6 c = search needs
 
 returns-7 : tie.Need-returns-7
-returns-7 c = labelled-none (rw (c .enum-told6 .given .1))
+returns-7 c = search needs
 
 returns-8 : tie.Need-returns-8
-returns-8 c = labelled-none (rw (c .enum-told7 .given .1))
+returns-8 c = search needs
 
 pub write-label-spec : {M : Type 1} → statement M
 write-label-spec =

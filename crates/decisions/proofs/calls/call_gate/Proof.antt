@@ -1,14 +1,11 @@
 -- `decisions::calls::call_gate` meets its contract.
 -- Assumes nothing.
-use Prim.Native.Nat.{_<_}
 use mathlib.Core.Path.{sym, _∙_}
-use native.Mathlib.Omega.{arith}
+use borrow.Author.Tests.{lt-ltb, le-ltb}
 use borrow.Author.Needs.{needs}
-use Rattle.model.specs.Numbers.{mostGates}
 use Rattle.model.specs.Ops.{table, mayCallGate}
 use Rattle.model.specs.Record.{valueAt, labelAt}
-use Rattle.parts.proofs.Frames.{stacked-newest}
-use Rattle.decisions.proofs.Calling.{below-both, below-last}
+use Rattle.parts.proofs.Frames.{newest-is}
 use Rattle.decisions.proofs.calls.call_gate.Statement.{statement}
 use Rattle.decisions.proofs.calls.call_gate.Tie as tie
 
@@ -24,18 +21,8 @@ element-copy-out-rb c = search needs
 is-empty-requires : tie.Need-is-empty-requires
 is-empty-requires c κs = search needs
 
-index-requires : tie.Need-index-requires
-index-requires c κs = search needs
-
--- The gate's number is that of a gate in the array.
-in-array : (c : tie.After-index) → c .index .result < mostGates
-in-array c = below-last _ _ mostGates (c .index .ensures) (c .before .if2 .taken)
-
-mul-gate : tie.Need-mul-gate
-mul-gate c = omega (arith, in-array c)
-
-array-copy-out-gate : tie.Need-array-copy-out-gate
-array-copy-out-gate c = in-array c
+gate-at-requires : tie.Need-gate-at-requires
+gate-at-requires c κs = search needs
 
 element-copy-out-may-enter : tie.Need-element-copy-out-may-enter
 element-copy-out-may-enter c = search needs
@@ -45,19 +32,19 @@ may-enter-requires c κs = search needs
 
 returns : tie.Need-returns
 unfolding table mayCallGate valueAt labelAt
-returns c g =
-    let at = c .before .before .before .before .before in
+returns c =
+    let at = c .before .before .before .before in
     let free = at .before .before .before in
     let none = sym (free .before .is-empty .ensures) ∙ free .if1 .taken in
     record {
       is =
-          λ h words marks.
+          λ words marks.
           rw (
-            stacked-newest h,
+            newest-is _,
             none,
             ← free .before .before .before .b-of .ensures .0,
-            sym (below-both _ _ _ g) ∙ at .before .if2 .taken,
-            ← at .index .ensures,
+            lt-ltb _ _ (at .before .if2 .taken),
+            ← at .gate-at .ensures,
             ← c .before .may-enter .ensures,
             c .if3 .taken,
           );
@@ -66,19 +53,18 @@ returns c g =
 
 returns-2 : tie.Need-returns-2
 unfolding table mayCallGate valueAt labelAt
-returns-2 c g =
-    let at = c .before .before .before .before .before in
+returns-2 c =
+    let at = c .before .before .before .before in
     let free = at .before .before .before in
-    let none = sym (free .before .is-empty .ensures) ∙ free .if1 .taken in
     record {
       is =
-          λ h words marks.
+          λ words marks.
           rw (
-            stacked-newest h,
-            none,
+            newest-is _,
+            sym (free .before .is-empty .ensures) ∙ free .if1 .taken,
             ← free .before .before .before .b-of .ensures .0,
-            sym (below-both _ _ _ g) ∙ at .before .if2 .taken,
-            ← at .index .ensures,
+            lt-ltb _ _ (at .before .if2 .taken),
+            ← at .gate-at .ensures,
             ← c .before .may-enter .ensures,
             c .if3 .left,
           );
@@ -87,24 +73,24 @@ returns-2 c g =
 
 returns-3 : tie.Need-returns-3
 unfolding table mayCallGate valueAt labelAt
-returns-3 c g =
+returns-3 c =
     let free = c .before .before in
     record {
       is =
-          λ h words marks.
+          λ words marks.
           rw (
-            stacked-newest h,
+            newest-is _,
             sym (free .before .is-empty .ensures) ∙ free .if1 .taken,
             ← free .before .before .before .b-of .ensures .0,
-            sym (below-both _ _ _ g) ∙ c .if2 .left,
+            le-ltb _ _ (c .if2 .left),
           );
       fits = λ p. p;
     }
 
 returns-4 : tie.Need-returns-4
 unfolding table mayCallGate valueAt labelAt
-returns-4 c g =
-    record { is = λ h words marks. rw (stacked-newest h, sym (c .before .is-empty .ensures) ∙ c .if1 .left); fits = λ p. p }
+returns-4 c =
+    record { is = λ words marks. rw (newest-is _, sym (c .before .is-empty .ensures) ∙ c .if1 .left); fits = λ p. p }
 
 pub call-gate-spec : {M : Type 1} → statement M
 call-gate-spec =
@@ -114,9 +100,7 @@ call-gate-spec =
     mul-rb
     element-copy-out-rb
     is-empty-requires
-    index-requires
-    mul-gate
-    array-copy-out-gate
+    gate-at-requires
     element-copy-out-may-enter
     may-enter-requires
     returns

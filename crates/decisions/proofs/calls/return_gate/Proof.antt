@@ -3,7 +3,8 @@
 use mathlib.Core.Path.{sym, _∙_}
 use borrow.Author.Needs.{needs}
 use Rattle.model.specs.Ops.{table, mayReturn}
-use Rattle.parts.proofs.Frames.{stacked-newest}
+use Rattle.parts.proofs.Frames.{newest-is}
+use Rattle.decisions.proofs.Calling.{kept-pair}
 use Rattle.decisions.proofs.calls.return_gate.Statement.{statement}
 use Rattle.decisions.proofs.calls.return_gate.Tie as tie
 
@@ -23,13 +24,14 @@ returns : tie.Need-returns
 unfolding table mayReturn
 returns c w fixed values labels =
     let at = c .before .before .before .before in
+    let gate = sym (at .before .is-gate .ensures) ∙ at .if1 .taken in
     record {
       is =
-          λ h words marks.
+          λ words marks.
           rw (
-            stacked-newest h,
-            sym (at .before .is-gate .ensures) ∙ at .if1 .taken,
-            h .newest .pair,
+            newest-is _,
+            gate,
+            kept-pair _ gate,
             ← c .before .before .before .join .ensures,
             ← c .before .before .meet .ensures,
             ← c .before .flows-to .ensures,
@@ -42,13 +44,14 @@ returns-2 : tie.Need-returns-2
 unfolding table mayReturn
 returns-2 c w fixed values labels =
     let at = c .before .before .before .before in
+    let gate = sym (at .before .is-gate .ensures) ∙ at .if1 .taken in
     record {
       is =
-          λ h words marks.
+          λ words marks.
           rw (
-            stacked-newest h,
-            sym (at .before .is-gate .ensures) ∙ at .if1 .taken,
-            h .newest .pair,
+            newest-is _,
+            gate,
+            kept-pair _ gate,
             ← c .before .before .before .join .ensures,
             ← c .before .before .meet .ensures,
             ← c .before .flows-to .ensures,
@@ -60,7 +63,7 @@ returns-2 c w fixed values labels =
 returns-3 : tie.Need-returns-3
 unfolding table mayReturn
 returns-3 c w fixed values labels =
-    record { is = λ h words marks. rw (stacked-newest h, sym (c .before .is-gate .ensures) ∙ c .if1 .left); fits = λ p. p }
+    record { is = λ words marks. rw (newest-is _, sym (c .before .is-gate .ensures) ∙ c .if1 .left); fits = λ p. p }
 
 pub return-gate-spec : {M : Type 1} → statement M
 return-gate-spec =

@@ -39,7 +39,7 @@ is-upcall-requires c κs = search needs
 returns : tie.Need-returns
 unfolding table mayUpcall newPairAllowed valueAt labelAt
 returns c fixed =
-    record { is = λ h words marks. rw (in-upcall h, sym (c .before .is-upcall .ensures) ∙ c .if1 .taken); fits = λ p. p }
+    record { is = λ words marks. rw (in-upcall _, sym (c .before .is-upcall .ensures) ∙ c .if1 .taken); fits = λ p. p }
 
 element-copy-out-new-pair-allowed : tie.Need-element-copy-out-new-pair-allowed
 element-copy-out-new-pair-allowed c = search needs
@@ -100,9 +100,9 @@ returns-2 c fixed =
     let no-upcall = sym (out .before .is-upcall .ensures) ∙ out .if1 .left in
     record {
       is =
-          λ h words marks.
+          λ words marks.
           rw (
-            in-upcall h,
+            in-upcall _,
             no-upcall,
             ← fields .before .before .before .a-of .ensures .0,
             ← fields .before .before .b-of .ensures .0,
@@ -130,9 +130,9 @@ returns-3 c fixed =
     let no-upcall = sym (out .before .is-upcall .ensures) ∙ out .if1 .left in
     record {
       is =
-          λ h words marks.
+          λ words marks.
           rw (
-            in-upcall h,
+            in-upcall _,
             no-upcall,
             ← fields .before .before .before .a-of .ensures .0,
             ← fields .before .before .b-of .ensures .0,
@@ -155,9 +155,9 @@ returns-4 c fixed =
     let fields = out .before .before .before .before in
     record {
       is =
-          λ h words marks.
+          λ words marks.
           rw (
-            in-upcall h,
+            in-upcall _,
             sym (out .before .is-upcall .ensures) ∙ out .if1 .left,
             ← fields .before .before .b-of .ensures .0,
             ← fields .before .c-of .ensures .0,

@@ -41,7 +41,7 @@ returns c fixed =
     let fields = at .before .before .before .before in
     record {
       is =
-          λ h words marks.
+          λ words marks.
           rw (
             ← fields .before .a-of .ensures .0,
             ← fields .b-of .ensures .0,
@@ -61,7 +61,7 @@ returns-2 c fixed =
     let fields = at .before .before .before .before in
     record {
       is =
-          λ h words marks.
+          λ words marks.
           rw (
             ← fields .before .a-of .ensures .0,
             ← fields .b-of .ensures .0,
@@ -79,7 +79,7 @@ returns-3 c fixed =
     let fields = c .before .before .before .before in
     record {
       is =
-          λ h words marks.
+          λ words marks.
           rw (
             ← fields .before .a-of .ensures .0,
             ← fields .b-of .ensures .0,

@@ -53,7 +53,7 @@ returns c fixed =
     let fields = at .before .before .before .before .before .before in
     record {
       is =
-          λ h words marks.
+          λ words marks.
           rw (
             ← fields .before .b-of .ensures .0,
             ← fields .c-of .ensures .0,
@@ -75,7 +75,7 @@ returns-2 c fixed =
     let fields = at .before .before .before .before .before .before in
     record {
       is =
-          λ h words marks.
+          λ words marks.
           rw (
             ← fields .before .b-of .ensures .0,
             ← fields .c-of .ensures .0,
@@ -96,7 +96,7 @@ returns-3 c fixed =
     let fields = c .before .before .before .before .before .before in
     record {
       is =
-          λ h words marks.
+          λ words marks.
           rw (
             ← fields .before .b-of .ensures .0,
             ← fields .c-of .ensures .0,

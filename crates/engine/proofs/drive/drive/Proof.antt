@@ -8,7 +8,9 @@ use mathlib.Core.List.{List}
 use native.Mathlib.Omega.{arith}
 use lib.Dec.{ltb}
 use borrow.Author.Needs.{needs}
+use Rattle.model.specs.Numbers.{mostTicks}
 use Rattle.parts.specs.Live.{controlOf, Lives}
+use Rattle.parts.proofs.Frames as frames
 use Rattle.engine.proofs.Driving.{Went, Due, Asked, Going, going-start, past-start, driven-from, due-of, alone-asks, deadline-limited, ends-as, first-or-more, ticksLeft, went-ended, ran, some-left, few-left, clock-there-limited, went-paused, applies-there, went-barred, fewer, went-single, went-more, still-mirrors}
 use Rattle.engine.proofs.drive.drive.Statement.{statement}
 use Rattle.engine.proofs.drive.drive.Tie as tie
@@ -53,7 +55,7 @@ asked c =
 
 -- The control that the loop began with is the start's.
 lives : (c : tie.At-loop Inv-loop μ-loop) → Lives (started c .args .task .start) (c .before .before .before .live-of .result)
-lives c = c .before .before .before .live-of .ensures (started c .pre .stacked)
+lives c = frames.lives _ (c .before .before .before .live-of .ensures) (started c .pre .stacked)
 
 -- What holds at the loop's test.
 went : (c : tie.At-loop Inv-loop μ-loop)
@@ -72,163 +74,126 @@ due c =
 runs : (c : tie.After-alone Inv-loop μ-loop) → tested c .loop .live .end ≡ 0
 runs c = c .before .before .before .before .before .if2 .taken
 
--- src/drive.rt:228:9
+-- No deadline is past the most ticks.
+within : (c : tie.After-alone Inv-loop μ-loop) → c .alone .result ≤ mostTicks
+within c = omega (arith, deadline-limited (went (tested c)) (runs c) (due c), started (tested c) .pre .limit)
+
+-- ---- the needs
+
 is-once-requires : tie.Need-is-once-requires Inv-loop μ-loop
 is-once-requires c κs = search needs
 
--- src/drive.rt:229:25
 is-stride-requires : tie.Need-is-stride-requires Inv-loop μ-loop
 is-stride-requires c κs = search needs
 
--- src/drive.rt:230:9
 looked-at-requires : tie.Need-looked-at-requires Inv-loop μ-loop
 looked-at-requires c κs = search needs
 
--- src/drive.rt:232:9
 tick-of-requires : tie.Need-tick-of-requires Inv-loop μ-loop
 tick-of-requires c κs = search needs
 
--- src/drive.rt:233:22
 turn-requires : tie.Need-turn-requires Inv-loop μ-loop
 turn-requires c κs = search needs
 
--- src/drive.rt:234:9
 live-of-requires : tie.Need-live-of-requires Inv-loop μ-loop
 live-of-requires c κs = search needs
 
--- src/drive.rt:236:9
 returns : tie.Need-returns Inv-loop μ-loop
-returns c = past-start (c .before .before .before .before .before .before .before .before .before .before .before .before .args .task) (c .before .before .before .before .before .before .before .before .before .before .before .before .pre) (c .before .before .live-of .ensures (c .before .before .before .before .before .before .before .before .before .before .before .before .pre .stacked)) (c .before .before .before .before .before .tick-of .ensures .0) (c .if1 .taken)
+returns c = past-start (c .before .before .before .before .before .before .before .before .before .before .before .before .args .task) (c .before .before .before .before .before .before .before .before .before .before .before .before .pre) (frames.lives _ (c .before .before .live-of .ensures) (c .before .before .before .before .before .before .before .before .before .before .before .before .pre .stacked)) (c .before .before .before .before .before .tick-of .ensures .0) (c .if1 .taken)
 
--- src/drive.rt:238:5
 loop-holds : tie.Need-loop-holds Inv-loop μ-loop
-loop-holds c = going-start (c .before .before .before .before .before .before .before .before .before .before .before .before .pre) (c .before .before .live-of .ensures (c .before .before .before .before .before .before .before .before .before .before .before .before .pre .stacked)) (c .before .before .before .turn .ensures) (c .if1 .left)
+loop-holds c = going-start (c .before .before .before .before .before .before .before .before .before .before .before .before .pre) (frames.lives _ (c .before .before .live-of .ensures) (c .before .before .before .before .before .before .before .before .before .before .before .before .pre .stacked)) (c .before .before .before .turn .ensures) (c .if1 .left)
 
--- src/drive.rt:239:13
 deadline-of-requires : tie.Need-deadline-of-requires Inv-loop μ-loop
 deadline-of-requires c κs = search needs
 
--- src/drive.rt:240:13
 alone-requires : tie.Need-alone-requires Inv-loop μ-loop
 alone-requires c κs = let l = c .before .before .before .before .before .before in alone-asks (went l) (c .before .before .before .before .if2 .taken) (asked l) (c .before .before .before .deadline-of .ensures) (l .before .before .before .before .before .before .before .looked-at .ensures)
 
--- src/drive.rt:241:13
 context-of-requires : tie.Need-context-of-requires Inv-loop μ-loop
 context-of-requires c κs = search needs
 
--- src/drive.rt:244:19
-add-moved : tie.Need-add-moved Inv-loop μ-loop
-add-moved c = let a = c .before in omega (arith, deadline-limited (went (tested a)) (runs a) (due a), started (tested a) .pre .limit)
+place-of-requires : tie.Need-place-of-requires Inv-loop μ-loop
+place-of-requires c κs = let a = c .before in (due a .later, within a)
 
--- src/drive.rt:244:19
-sub-moved : tie.Need-sub-moved Inv-loop μ-loop
-sub-moved c = omega (arith, due (c .before .before) .later)
-
--- src/drive.rt:246:13
 sprint-requires : tie.Need-sprint-requires Inv-loop μ-loop
 sprint-requires c κs = search needs
 
--- src/drive.rt:249:28
-add-moved-2 : tie.Need-add-moved-2 Inv-loop μ-loop
-add-moved-2 c = let a = c .before .before .before .before .before .before .before .before .before in omega (arith, deadline-limited (went (tested a)) (runs a) (due a), started (tested a) .pre .limit)
+add-moved : tie.Need-add-moved Inv-loop μ-loop
+add-moved c = let a = c .before .before .before .before .before .before .before .before .before in omega (arith, within a)
 
--- src/drive.rt:249:28
-sub-moved-2 : tie.Need-sub-moved-2 Inv-loop μ-loop
-sub-moved-2 c = let s = c .before .before .before .before in let a = told s in let l = tested a in few-left (went l) (runs a) (due a) (s .before .before .before .before .before .context-of .ensures) (s .sprint .ensures)
+sub-moved : tie.Need-sub-moved Inv-loop μ-loop
+sub-moved c = let s = c .before .before .before .before in let a = told s in let l = tested a in few-left (went l) (runs a) (due a) (s .before .before .before .before .before .context-of .ensures) (s .before .before .before .before .place-of .ensures) (s .sprint .ensures)
 
--- src/drive.rt:249:9
 moved-requires : tie.Need-moved-requires Inv-loop μ-loop
 moved-requires c κs = search needs
 
--- src/drive.rt:250:57
 relabels-requires : tie.Need-relabels-requires Inv-loop μ-loop
 relabels-requires c κs = search needs
 
--- src/drive.rt:251:13
 control-of-requires : tie.Need-control-of-requires Inv-loop μ-loop
 control-of-requires c κs = search needs
 
--- src/drive.rt:251:13
 same-length : tie.Need-same-length Inv-loop μ-loop
 same-length c = let s = c .before .before .before .before .before .before .before .before .before .before in let a = told s in let l = tested a in s .sprint .kept .1 .1 .1 .1 .0 ∙ went l .long
 
--- src/drive.rt:251:13
 returns-2 : tie.Need-returns-2 Inv-loop μ-loop
-returns-2 c = let s = c .before .before .before .before .before .before .before .before .before .before in let a = told s in let l = tested a in driven-from (started l .args .task) (started l .args .values .now) (started l .args .labels .now) (started l .args .words .now) (started l .args .marks .now) (lives l) (went-paused (went l) (runs a) (due a) (s .before .before .before .before .before .context-of .ensures) (s .sprint .ensures) (c .before .before .before .before .before .moved .ensures) (ends-as (ltb (s .sprint .result .place .left) (a .alone .result + 1 - l .loop .live .clock)) (s .sprint .result .reason) (asked l) (c .before .before .relabels .ensures)) (c .before .if3 .taken) (c .control-of .ensures))
+returns-2 c = let s = c .before .before .before .before .before .before .before .before .before .before in let a = told s in let l = tested a in driven-from (started l .args .task) (started l .args .values .now) (started l .args .labels .now) (started l .args .words .now) (started l .args .marks .now) (lives l) (went-paused (went l) (runs a) (due a) (s .before .before .before .before .before .context-of .ensures) (s .before .before .before .before .place-of .ensures) (s .sprint .ensures) (c .before .before .before .before .before .moved .ensures) (ends-as (s .sprint .result .place .left) (s .sprint .result .reason) (asked l) (s .before .before .before .before .place-of .ensures) (c .before .before .relabels .ensures)) (c .before .if3 .taken) (c .control-of .ensures))
 
--- src/drive.rt:253:13
 decide-requires : tie.Need-decide-requires Inv-loop μ-loop
 decide-requires c κs = search needs
 
--- src/drive.rt:254:12
 is-barred-requires : tie.Need-is-barred-requires Inv-loop μ-loop
-is-barred-requires c κs = let s = c .before .before .before .before .before .before .before .before .before .before .before .before in let a = told s in let l = tested a in (applies-there (went l) (runs a) (due a) (s .before .before .before .before .before .context-of .ensures) (s .sprint .ensures) (c .before .before .before .before .before .before .before .moved .ensures) (c .decide .ensures), clock-there-limited (went l) (runs a) (due a) (s .before .before .before .before .before .context-of .ensures) (s .sprint .ensures) (c .before .before .before .before .before .before .before .moved .ensures))
+is-barred-requires c κs = let s = c .before .before .before .before .before .before .before .before .before .before .before .before in let a = told s in let l = tested a in (applies-there (went l) (runs a) (due a) (s .before .before .before .before .before .context-of .ensures) (s .before .before .before .before .place-of .ensures) (s .sprint .ensures) (c .before .before .before .before .before .before .before .moved .ensures) {decision = c .decide .result} (record { is = c .decide .ensures .0; applies = c .decide .ensures .1 }), clock-there-limited (went l) (runs a) (due a) (s .before .before .before .before .before .context-of .ensures) (s .before .before .before .before .place-of .ensures) (s .sprint .ensures) (c .before .before .before .before .before .before .before .moved .ensures))
 
--- src/drive.rt:255:13
 control-of-requires-2 : tie.Need-control-of-requires-2 Inv-loop μ-loop
 control-of-requires-2 c κs = search needs
 
--- src/drive.rt:255:13
 same-length-2 : tie.Need-same-length-2 Inv-loop μ-loop
 same-length-2 c = let s = c .before .before .before .before .before .before .before .before .before .before .before .before .before .before .before in let a = told s in let l = tested a in s .sprint .kept .1 .1 .1 .1 .0 ∙ went l .long
 
--- src/drive.rt:255:13
 returns-3 : tie.Need-returns-3 Inv-loop μ-loop
-returns-3 c = let s = c .before .before .before .before .before .before .before .before .before .before .before .before .before .before .before in let a = told s in let l = tested a in driven-from (started l .args .task) (started l .args .values .now) (started l .args .labels .now) (started l .args .words .now) (started l .args .marks .now) (lives l) (went-barred (went l) (runs a) (due a) (s .before .before .before .before .before .context-of .ensures) (s .sprint .ensures) (c .before .before .before .before .before .before .before .before .before .before .moved .ensures) (c .before .before .before .decide .ensures) (asked l .tick-is) (c .before .before .is-barred .ensures) (c .before .if4 .taken) (c .control-of2 .ensures))
+returns-3 c = let s = c .before .before .before .before .before .before .before .before .before .before .before .before .before .before .before in let a = told s in let l = tested a in driven-from (started l .args .task) (started l .args .values .now) (started l .args .labels .now) (started l .args .words .now) (started l .args .marks .now) (lives l) (went-barred (went l) (runs a) (due a) (s .before .before .before .before .before .context-of .ensures) (s .before .before .before .before .place-of .ensures) (s .sprint .ensures) (c .before .before .before .before .before .before .before .before .before .before .moved .ensures) {decision = c .before .before .before .decide .result} (record { is = c .before .before .before .decide .ensures .0; applies = c .before .before .before .decide .ensures .1 }) (asked l .tick-is) (c .before .before .is-barred .ensures) (c .before .if4 .taken) (c .control-of2 .ensures))
 
--- src/drive.rt:257:9
 write-back-requires : tie.Need-write-back-requires Inv-loop μ-loop
 write-back-requires c κs = search needs
 
--- src/drive.rt:258:9
 control-after-requires : tie.Need-control-after-requires Inv-loop μ-loop
 control-after-requires c κs = search needs
 
--- src/drive.rt:260:13
 control-of-requires-3 : tie.Need-control-of-requires-3 Inv-loop μ-loop
 control-of-requires-3 c κs = search needs
 
--- src/drive.rt:260:13
 same-length-3 : tie.Need-same-length-3 Inv-loop μ-loop
 same-length-3 c = let s = c .before .before .before .before .before .before .before .before .before .before .before .before .before .before .before .before .before .before .before .before in let a = told s in let l = tested a in s .sprint .kept .1 .1 .1 .1 .0 ∙ went l .long
 
--- src/drive.rt:260:13
 returns-4 : tie.Need-returns-4 Inv-loop μ-loop
-returns-4 c = let s = c .before .before .before .before .before .before .before .before .before .before .before .before .before .before .before .before .before .before .before .before in let a = told s in let l = tested a in driven-from (started l .args .task) (started l .args .values .now) (started l .args .labels .now) (started l .args .words .now) (started l .args .marks .now) (lives l) (went-single (went l) (runs a) (due a) (s .before .before .before .before .before .context-of .ensures) (s .sprint .ensures) (c .before .before .before .before .before .before .before .before .before .before .before .before .before .before .before .moved .ensures) (c .before .before .before .before .before .before .before .before .decide .ensures) ((asked l) .tick-is) (c .before .before .before .before .before .before .before .is-barred .ensures) (c .before .before .before .before .before .before .if4 .left) (first-or-more _ _ _ (c .before .before .before .before .before .before .before .before .before .before .before .before .relabels .result) (asked l) (ran (went l) (runs a) (due a) (s .before .before .before .before .before .context-of .ensures) (s .sprint .ensures) .took) (c .before .before .before .before .before .before .before .before .before .before .before .if3 .left)) (c .before .before .before .write-back .ensures) (c .before .before .control-after .ensures) (ends-as (ltb (s .sprint .result .place .left) (a .alone .result + 1 - l .loop .live .clock)) (s .sprint .result .reason) (asked l) (c .before .before .before .before .before .before .before .before .before .before .before .before .relabels .ensures)) (c .before .before .before .before .before .before .before .before .before .before .before .if3 .left) (sym (asked l .single-is) ∙ c .before .if5 .taken) (c .control-of3 .ensures))
+returns-4 c = let s = c .before .before .before .before .before .before .before .before .before .before .before .before .before .before .before .before .before .before .before .before in let a = told s in let l = tested a in driven-from (started l .args .task) (started l .args .values .now) (started l .args .labels .now) (started l .args .words .now) (started l .args .marks .now) (lives l) (went-single (went l) (runs a) (due a) (s .before .before .before .before .before .context-of .ensures) (s .before .before .before .before .place-of .ensures) (s .sprint .ensures) (c .before .before .before .before .before .before .before .before .before .before .before .before .before .before .before .moved .ensures) {decision = c .before .before .before .before .before .before .before .before .decide .result} (record { is = c .before .before .before .before .before .before .before .before .decide .ensures .0; applies = c .before .before .before .before .before .before .before .before .decide .ensures .1 }) ((asked l) .tick-is) (c .before .before .before .before .before .before .before .is-barred .ensures) (c .before .before .before .before .before .before .if4 .left) (first-or-more _ _ (c .before .before .before .before .before .before .before .before .before .before .before .before .relabels .result) (asked l) (s .before .before .before .before .place-of .ensures) (ran (went l) (runs a) (due a) (s .before .before .before .before .before .context-of .ensures) (s .before .before .before .before .place-of .ensures) (s .sprint .ensures) .took) (c .before .before .before .before .before .before .before .before .before .before .before .if3 .left)) (c .before .before .before .write-back .ensures) (c .before .before .control-after .ensures) (ends-as (s .sprint .result .place .left) (s .sprint .result .reason) (asked l) (s .before .before .before .before .place-of .ensures) (c .before .before .before .before .before .before .before .before .before .before .before .before .relabels .ensures)) (c .before .before .before .before .before .before .before .before .before .before .before .if3 .left) (sym (asked l .single-is) ∙ c .before .if5 .taken) (c .control-of3 .ensures))
 
--- src/drive.rt:262:12
 sets-label-requires : tie.Need-sets-label-requires Inv-loop μ-loop
 sets-label-requires c κs = search needs
 
--- src/drive.rt:263:22
 turn-requires-2 : tie.Need-turn-requires-2 Inv-loop μ-loop
 turn-requires-2 c κs = search needs
 
--- src/drive.rt:238:5
 loop-less : tie.Need-loop-less Inv-loop μ-loop
-loop-less c = let s = c .before .before .before .before .before .before .before .before .before .before .before .before .before .before .before .before .before .before .before .before .before .before .before in let a = told s in let l = tested a in fewer (went l) (runs a) (due a) (s .before .before .before .before .before .context-of .ensures) (s .sprint .ensures) (c .before .before .before .before .before .before .before .before .before .before .before .before .before .before .before .before .before .before .moved .ensures) (c .before .before .before .before .before .before .before .before .before .before .before .decide .ensures) ((asked l) .tick-is) (c .before .before .before .before .before .before .before .before .before .before .is-barred .ensures) (c .before .before .before .before .before .before .before .before .before .if4 .left) (first-or-more _ _ _ (c .before .before .before .before .before .before .before .before .before .before .before .before .before .before .before .relabels .result) (asked l) (ran (went l) (runs a) (due a) (s .before .before .before .before .before .context-of .ensures) (s .sprint .ensures) .took) (c .before .before .before .before .before .before .before .before .before .before .before .before .before .before .if3 .left)) (c .before .before .before .before .before .before .write-back .ensures) (c .before .before .before .before .before .control-after .ensures)
+loop-less c = let s = c .before .before .before .before .before .before .before .before .before .before .before .before .before .before .before .before .before .before .before .before .before .before .before in let a = told s in let l = tested a in fewer (went l) (runs a) (due a) (s .before .before .before .before .before .context-of .ensures) (s .before .before .before .before .place-of .ensures) (s .sprint .ensures) (c .before .before .before .before .before .before .before .before .before .before .before .before .before .before .before .before .before .before .moved .ensures) {decision = c .before .before .before .before .before .before .before .before .before .before .before .decide .result} (record { is = c .before .before .before .before .before .before .before .before .before .before .before .decide .ensures .0; applies = c .before .before .before .before .before .before .before .before .before .before .before .decide .ensures .1 }) ((asked l) .tick-is) (c .before .before .before .before .before .before .before .before .before .before .is-barred .ensures) (c .before .before .before .before .before .before .before .before .before .if4 .left) (first-or-more _ _ (c .before .before .before .before .before .before .before .before .before .before .before .before .before .before .before .relabels .result) (asked l) (s .before .before .before .before .place-of .ensures) (ran (went l) (runs a) (due a) (s .before .before .before .before .before .context-of .ensures) (s .before .before .before .before .place-of .ensures) (s .sprint .ensures) .took) (c .before .before .before .before .before .before .before .before .before .before .before .before .before .before .if3 .left)) (c .before .before .before .before .before .before .write-back .ensures) (c .before .before .before .before .before .control-after .ensures)
 
--- src/drive.rt:238:5
 loop-again : tie.Need-loop-again Inv-loop μ-loop
-loop-again c = let s = c .before .before .before .before .before .before .before .before .before .before .before .before .before .before .before .before .before .before .before .before .before .before .before in let a = told s in let l = tested a in λ p q. went-more (l .loop .inv p q) (runs a) (due-of (started l .args .fixed) q (a .before .before .before .before .deadline-of .ensures .0) (l .before .before .before .before .before .before .before .looked-at .ensures) (a .alone .ensures)) (s .before .before .before .before .before .context-of .ensures) (s .sprint .ensures) (c .before .before .before .before .before .before .before .before .before .before .before .before .before .before .before .before .before .before .moved .ensures) (c .before .before .before .before .before .before .before .before .before .before .before .decide .ensures) (q .tick-is) (c .before .before .before .before .before .before .before .before .before .before .is-barred .ensures) (c .before .before .before .before .before .before .before .before .before .if4 .left) (first-or-more _ _ _ (c .before .before .before .before .before .before .before .before .before .before .before .before .before .before .before .relabels .result) q (ran (l .loop .inv p q) (runs a) (due-of (started l .args .fixed) q (a .before .before .before .before .deadline-of .ensures .0) (l .before .before .before .before .before .before .before .looked-at .ensures) (a .alone .ensures)) (s .before .before .before .before .before .context-of .ensures) (s .sprint .ensures) .took) (c .before .before .before .before .before .before .before .before .before .before .before .before .before .before .if3 .left)) (c .before .before .before .before .before .before .write-back .ensures) (c .before .before .before .before .before .control-after .ensures) (sym (q .single-is) ∙ c .before .before .before .before .if5 .left) (s .sprint .kept .1 .1 .1 .1 .0) (c .turn2 .ensures)
+loop-again c = let s = c .before .before .before .before .before .before .before .before .before .before .before .before .before .before .before .before .before .before .before .before .before .before .before in let a = told s in let l = tested a in λ p q. went-more (l .loop .inv p q) (runs a) (due-of (started l .args .fixed) q (a .before .before .before .before .deadline-of .ensures .0) (l .before .before .before .before .before .before .before .looked-at .ensures) (a .alone .ensures)) (s .before .before .before .before .before .context-of .ensures) (s .before .before .before .before .place-of .ensures) (s .sprint .ensures) (c .before .before .before .before .before .before .before .before .before .before .before .before .before .before .before .before .before .before .moved .ensures) {decision = c .before .before .before .before .before .before .before .before .before .before .before .decide .result} (record { is = c .before .before .before .before .before .before .before .before .before .before .before .decide .ensures .0; applies = c .before .before .before .before .before .before .before .before .before .before .before .decide .ensures .1 }) (q .tick-is) (c .before .before .before .before .before .before .before .before .before .before .is-barred .ensures) (c .before .before .before .before .before .before .before .before .before .if4 .left) (first-or-more _ _ (c .before .before .before .before .before .before .before .before .before .before .before .before .before .before .before .relabels .result) q (s .before .before .before .before .place-of .ensures) (ran (l .loop .inv p q) (runs a) (due-of (started l .args .fixed) q (a .before .before .before .before .deadline-of .ensures .0) (l .before .before .before .before .before .before .before .looked-at .ensures) (a .alone .ensures)) (s .before .before .before .before .before .context-of .ensures) (s .before .before .before .before .place-of .ensures) (s .sprint .ensures) .took) (c .before .before .before .before .before .before .before .before .before .before .before .before .before .before .if3 .left)) (c .before .before .before .before .before .before .write-back .ensures) (c .before .before .before .before .before .control-after .ensures) (sym (q .single-is) ∙ c .before .before .before .before .if5 .left) (s .sprint .kept .1 .1 .1 .1 .0) (c .turn2 .ensures)
 
--- src/drive.rt:238:5
 loop-less-2 : tie.Need-loop-less-2 Inv-loop μ-loop
-loop-less-2 c = let s = c .before .before .before .before .before .before .before .before .before .before .before .before .before .before .before .before .before .before .before .before .before in let a = told s in let l = tested a in fewer (went l) (runs a) (due a) (s .before .before .before .before .before .context-of .ensures) (s .sprint .ensures) (c .before .before .before .before .before .before .before .before .before .before .before .before .before .before .before .before .moved .ensures) (c .before .before .before .before .before .before .before .before .before .decide .ensures) ((asked l) .tick-is) (c .before .before .before .before .before .before .before .before .is-barred .ensures) (c .before .before .before .before .before .before .before .if4 .left) (first-or-more _ _ _ (c .before .before .before .before .before .before .before .before .before .before .before .before .before .relabels .result) (asked l) (ran (went l) (runs a) (due a) (s .before .before .before .before .before .context-of .ensures) (s .sprint .ensures) .took) (c .before .before .before .before .before .before .before .before .before .before .before .before .if3 .left)) (c .before .before .before .before .write-back .ensures) (c .before .before .before .control-after .ensures)
+loop-less-2 c = let s = c .before .before .before .before .before .before .before .before .before .before .before .before .before .before .before .before .before .before .before .before .before in let a = told s in let l = tested a in fewer (went l) (runs a) (due a) (s .before .before .before .before .before .context-of .ensures) (s .before .before .before .before .place-of .ensures) (s .sprint .ensures) (c .before .before .before .before .before .before .before .before .before .before .before .before .before .before .before .before .moved .ensures) {decision = c .before .before .before .before .before .before .before .before .before .decide .result} (record { is = c .before .before .before .before .before .before .before .before .before .decide .ensures .0; applies = c .before .before .before .before .before .before .before .before .before .decide .ensures .1 }) ((asked l) .tick-is) (c .before .before .before .before .before .before .before .before .is-barred .ensures) (c .before .before .before .before .before .before .before .if4 .left) (first-or-more _ _ (c .before .before .before .before .before .before .before .before .before .before .before .before .before .relabels .result) (asked l) (s .before .before .before .before .place-of .ensures) (ran (went l) (runs a) (due a) (s .before .before .before .before .before .context-of .ensures) (s .before .before .before .before .place-of .ensures) (s .sprint .ensures) .took) (c .before .before .before .before .before .before .before .before .before .before .before .before .if3 .left)) (c .before .before .before .before .write-back .ensures) (c .before .before .before .control-after .ensures)
 
--- src/drive.rt:238:5
 loop-again-2 : tie.Need-loop-again-2 Inv-loop μ-loop
-loop-again-2 c = let s = c .before .before .before .before .before .before .before .before .before .before .before .before .before .before .before .before .before .before .before .before .before in let a = told s in let l = tested a in λ p q. went-more (l .loop .inv p q) (runs a) (due-of (started l .args .fixed) q (a .before .before .before .before .deadline-of .ensures .0) (l .before .before .before .before .before .before .before .looked-at .ensures) (a .alone .ensures)) (s .before .before .before .before .before .context-of .ensures) (s .sprint .ensures) (c .before .before .before .before .before .before .before .before .before .before .before .before .before .before .before .before .moved .ensures) (c .before .before .before .before .before .before .before .before .before .decide .ensures) (q .tick-is) (c .before .before .before .before .before .before .before .before .is-barred .ensures) (c .before .before .before .before .before .before .before .if4 .left) (first-or-more _ _ _ (c .before .before .before .before .before .before .before .before .before .before .before .before .before .relabels .result) q (ran (l .loop .inv p q) (runs a) (due-of (started l .args .fixed) q (a .before .before .before .before .deadline-of .ensures .0) (l .before .before .before .before .before .before .before .looked-at .ensures) (a .alone .ensures)) (s .before .before .before .before .before .context-of .ensures) (s .sprint .ensures) .took) (c .before .before .before .before .before .before .before .before .before .before .before .before .if3 .left)) (c .before .before .before .before .write-back .ensures) (c .before .before .before .control-after .ensures) (sym (q .single-is) ∙ c .before .before .if5 .left) (s .sprint .kept .1 .1 .1 .1 .0) (still-mirrors (l .loop .inv p q) (runs a) (due-of (started l .args .fixed) q (a .before .before .before .before .deadline-of .ensures .0) (l .before .before .before .before .before .before .before .looked-at .ensures) (a .alone .ensures)) (s .before .before .before .before .before .context-of .ensures) (s .sprint .ensures) (c .before .before .before .before .before .before .before .before .before .before .before .before .before .before .before .before .moved .ensures) (c .before .before .before .before .before .before .before .before .before .decide .ensures) (q .tick-is) (c .before .before .before .before .before .before .before .before .is-barred .ensures) (c .before .before .before .before .before .before .before .if4 .left) (first-or-more _ _ _ (c .before .before .before .before .before .before .before .before .before .before .before .before .before .relabels .result) q (ran (l .loop .inv p q) (runs a) (due-of (started l .args .fixed) q (a .before .before .before .before .deadline-of .ensures .0) (l .before .before .before .before .before .before .before .looked-at .ensures) (a .alone .ensures)) (s .before .before .before .before .before .context-of .ensures) (s .sprint .ensures) .took) (c .before .before .before .before .before .before .before .before .before .before .before .before .if3 .left)) (c .before .before .before .before .write-back .ensures) (c .before .before .before .control-after .ensures) (sym (c .before .sets-label .ensures) ∙ c .if6 .left))
+loop-again-2 c = let s = c .before .before .before .before .before .before .before .before .before .before .before .before .before .before .before .before .before .before .before .before .before in let a = told s in let l = tested a in λ p q. went-more (l .loop .inv p q) (runs a) (due-of (started l .args .fixed) q (a .before .before .before .before .deadline-of .ensures .0) (l .before .before .before .before .before .before .before .looked-at .ensures) (a .alone .ensures)) (s .before .before .before .before .before .context-of .ensures) (s .before .before .before .before .place-of .ensures) (s .sprint .ensures) (c .before .before .before .before .before .before .before .before .before .before .before .before .before .before .before .before .moved .ensures) {decision = c .before .before .before .before .before .before .before .before .before .decide .result} (record { is = c .before .before .before .before .before .before .before .before .before .decide .ensures .0; applies = c .before .before .before .before .before .before .before .before .before .decide .ensures .1 }) (q .tick-is) (c .before .before .before .before .before .before .before .before .is-barred .ensures) (c .before .before .before .before .before .before .before .if4 .left) (first-or-more _ _ (c .before .before .before .before .before .before .before .before .before .before .before .before .before .relabels .result) q (s .before .before .before .before .place-of .ensures) (ran (l .loop .inv p q) (runs a) (due-of (started l .args .fixed) q (a .before .before .before .before .deadline-of .ensures .0) (l .before .before .before .before .before .before .before .looked-at .ensures) (a .alone .ensures)) (s .before .before .before .before .before .context-of .ensures) (s .before .before .before .before .place-of .ensures) (s .sprint .ensures) .took) (c .before .before .before .before .before .before .before .before .before .before .before .before .if3 .left)) (c .before .before .before .before .write-back .ensures) (c .before .before .before .control-after .ensures) (sym (q .single-is) ∙ c .before .before .if5 .left) (s .sprint .kept .1 .1 .1 .1 .0) (still-mirrors (l .loop .inv p q) (runs a) (due-of (started l .args .fixed) q (a .before .before .before .before .deadline-of .ensures .0) (l .before .before .before .before .before .before .before .looked-at .ensures) (a .alone .ensures)) (s .before .before .before .before .before .context-of .ensures) (s .before .before .before .before .place-of .ensures) (s .sprint .ensures) (c .before .before .before .before .before .before .before .before .before .before .before .before .before .before .before .before .moved .ensures) {decision = c .before .before .before .before .before .before .before .before .before .decide .result} (record { is = c .before .before .before .before .before .before .before .before .before .decide .ensures .0; applies = c .before .before .before .before .before .before .before .before .before .decide .ensures .1 }) (q .tick-is) (c .before .before .before .before .before .before .before .before .is-barred .ensures) (c .before .before .before .before .before .before .before .if4 .left) (first-or-more _ _ (c .before .before .before .before .before .before .before .before .before .before .before .before .before .relabels .result) q (s .before .before .before .before .place-of .ensures) (ran (l .loop .inv p q) (runs a) (due-of (started l .args .fixed) q (a .before .before .before .before .deadline-of .ensures .0) (l .before .before .before .before .before .before .before .looked-at .ensures) (a .alone .ensures)) (s .before .before .before .before .before .context-of .ensures) (s .before .before .before .before .place-of .ensures) (s .sprint .ensures) .took) (c .before .before .before .before .before .before .before .before .before .before .before .before .if3 .left)) (c .before .before .before .before .write-back .ensures) (c .before .before .before .control-after .ensures) (sym (c .before .sets-label .ensures) ∙ c .if6 .left))
 
--- src/drive.rt:266:5
 control-of-requires-4 : tie.Need-control-of-requires-4 Inv-loop μ-loop
 control-of-requires-4 c κs = search needs
 
--- src/drive.rt:215:1
 same-length-4 : tie.Need-same-length-4 Inv-loop μ-loop
 same-length-4 c = went (c .before .before .before) .long
 
--- src/drive.rt:215:1
 returns-5 : tie.Need-returns-5 Inv-loop μ-loop
 returns-5 c = let l = c .before .before .before in driven-from (started l .args .task) (started l .args .values .now) (started l .args .labels .now) (started l .args .words .now) (started l .args .marks .now) (lives l) (went-ended (went l) (c .before .if2 .left) (c .control-of4 .ensures))
 
@@ -249,11 +214,10 @@ drive-spec =
     deadline-of-requires
     alone-requires
     context-of-requires
+    place-of-requires
+    sprint-requires
     add-moved
     sub-moved
-    sprint-requires
-    add-moved-2
-    sub-moved-2
     moved-requires
     relabels-requires
     control-of-requires

@@ -1,3 +1,5 @@
+-- `engine::drive::is_barred` meets its contract.
+-- Assumes nothing.
 use borrow.Author.Needs.{needs}
 use mathlib.Core.Path.{sym}
 use native.Mathlib.Nat.{le-trans}
@@ -5,19 +7,13 @@ use borrow.Author.Tests.{le-ltb}
 use Rattle.engine.proofs.Driving.{finish-limited-by}
 use Rattle.engine.proofs.drive.is_barred.Statement.{statement}
 use Rattle.engine.proofs.drive.is_barred.Tie as tie
-use Rattle.engine.proofs.drive.is_barred.Reads as reads
-use Rattle.engine.proofs.drive.is_barred.Lts as lts
-use Rattle.engine.proofs.drive.finish_of.Reads as finish-of-reads
 
--- src/drive.rt:177:23
 finish-of-requires : tie.Need-finish-of-requires
 finish-of-requires c κs = search needs
 
--- src/drive.rt:177:9
 returns : tie.Need-returns
 returns c = rw (c .finish-of .ensures)
 
--- src/drive.rt:172:1
 returns-2 : tie.Need-returns-2
 returns-2 c = sym (le-ltb _ _ (le-trans (finish-limited-by (c .before .args .decision) (c .before .args .live) (c .before .args .limit) (c .before .pre .0) (c .before .pre .1)) (c .if1 .left)))
 

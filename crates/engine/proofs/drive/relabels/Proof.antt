@@ -1,59 +1,45 @@
+-- `engine::drive::relabels` meets its contract.
+-- Assumes nothing.
 use borrow.Author.Needs.{needs}
 use Rattle.engine.proofs.drive.relabels.Statement.{statement}
 use Rattle.engine.proofs.drive.relabels.Tie as tie
-use Rattle.engine.proofs.drive.relabels.Reads as reads
-use Rattle.engine.proofs.drive.relabels.Lts as lts
-use Rattle.parts.proofs.word.op_of.Reads as op-of-reads
 
--- src/drive.rt:121:24
 enum-told : tie.Need-enum-told
 enum-told c = search needs
 
--- src/drive.rt:122:25
 enum-told-2 : tie.Need-enum-told-2
 enum-told-2 c = search needs
 
--- src/drive.rt:123:28
 enum-told-3 : tie.Need-enum-told-3
 enum-told-3 c = search needs
 
--- src/drive.rt:124:31
 enum-told-4 : tie.Need-enum-told-4
 enum-told-4 c = search needs
 
--- src/drive.rt:125:27
 enum-told-5 : tie.Need-enum-told-5
 enum-told-5 c = search needs
 
--- src/drive.rt:126:22
 enum-known-reason : tie.Need-enum-known-reason
 enum-known-reason c = search needs
 
--- src/drive.rt:126:28
 op-of-requires : tie.Need-op-of-requires
 op-of-requires c κs = search needs
 
--- src/drive.rt:117:1
 returns : tie.Need-returns
 returns c = search needs
 
--- src/drive.rt:117:1
 returns-2 : tie.Need-returns-2
 returns-2 c = search needs
 
--- src/drive.rt:117:1
 returns-3 : tie.Need-returns-3
 returns-3 c = search needs
 
--- src/drive.rt:117:1
 returns-4 : tie.Need-returns-4
 returns-4 c = search needs
 
--- src/drive.rt:117:1
 returns-5 : tie.Need-returns-5
 returns-5 c = search needs
 
--- src/drive.rt:117:1
 returns-6 : tie.Need-returns-6
 returns-6 c = rw (c .before .before .reason .given .1, ← c .op-of .ensures)
 

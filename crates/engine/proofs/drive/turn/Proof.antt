@@ -1,3 +1,5 @@
+-- `engine::drive::turn` meets its contract.
+-- Assumes nothing.
 use Prim.Native.Nat.{_-_}
 use mathlib.Core.Path.{refl}
 use native.Mathlib.Omega.{arith}
@@ -6,10 +8,6 @@ use Rattle.model.specs.Numbers.{registerCount}
 use Rattle.engine.proofs.Mirroring.{Turning, turning-none, turning-more, turning-all}
 use Rattle.engine.proofs.drive.turn.Statement.{statement}
 use Rattle.engine.proofs.drive.turn.Tie as tie
-use Rattle.engine.proofs.drive.turn.Reads as reads
-use Rattle.engine.proofs.drive.turn.Lts as lts
-use Rattle.engine.proofs.drive.lacked_by.Reads as lacked-by-reads
-use Rattle.labels.proofs.Label.restrictions.Reads as restrictions-reads
 
 abbrev Inv-loop : tie.InvT-loop
 Inv-loop labels turned₀ i₀ turned i = Turning labels turned i
@@ -17,53 +15,41 @@ Inv-loop labels turned₀ i₀ turned i = Turning labels turned i
 abbrev μ-loop : tie.MeasureT-loop
 μ-loop labels turned₀ i₀ turned i = registerCount - i
 
--- src/drive.rt:90:5
 loop-holds : tie.Need-loop-holds Inv-loop μ-loop
 loop-holds c = turning-none refl
 
--- src/drive.rt:91:27
 element-copy-out-lacked-by : tie.Need-element-copy-out-lacked-by Inv-loop μ-loop
 element-copy-out-lacked-by c = search needs
 
--- src/drive.rt:91:21
 restrictions-requires : tie.Need-restrictions-requires Inv-loop μ-loop
 restrictions-requires c κs = search needs
 
--- src/drive.rt:91:9
 array-write-turned : tie.Need-array-write-turned Inv-loop μ-loop
 array-write-turned c = search needs
 
--- src/drive.rt:92:48
 element-copy-out-lacked-by-2 : tie.Need-element-copy-out-lacked-by-2 Inv-loop μ-loop
 element-copy-out-lacked-by-2 c = search needs
 
--- src/drive.rt:92:38
 lacked-by-requires : tie.Need-lacked-by-requires Inv-loop μ-loop
 lacked-by-requires c κs = search needs
 
--- src/drive.rt:92:16
 add-turned : tie.Need-add-turned Inv-loop μ-loop
 add-turned c = omega (arith, c .before .before .before .before .loop-test .taken)
 
--- src/drive.rt:92:9
 array-write-turned-2 : tie.Need-array-write-turned-2 Inv-loop μ-loop
 array-write-turned-2 c = omega (arith, c .before .before .before .before .loop-test .taken)
 
--- src/drive.rt:93:9
 add-i : tie.Need-add-i Inv-loop μ-loop
 add-i c = omega (arith, c .before .before .before .before .loop-test .taken)
 
--- src/drive.rt:90:5
 loop-less : tie.Need-loop-less Inv-loop μ-loop
 loop-less c = omega (arith, c .before .before .before .before .loop-test .taken)
 
--- src/drive.rt:90:5
 loop-again : tie.Need-loop-again Inv-loop μ-loop
 loop-again c =
     turning-more (c .before .before .before .before .before .loop .inv) (c .before .before .before .before .loop-test .taken) (c .before .before .restrictions .ensures)
     (c .lacked-by .ensures .0) (c .lacked-by .ensures .1)
 
--- src/drive.rt:85:1
 returns : tie.Need-returns Inv-loop μ-loop
 returns c = turning-all (c .before .loop .inv) (c .loop-test .left)
 

@@ -1,29 +1,22 @@
+-- `machine::Machine::carried` meets its contract.
+-- Assumes nothing.
 use borrow.Author.Needs.{needs}
 use Rattle.machine.proofs.Whole.{carried-of}
 use Rattle.machine.proofs.Machine.carried.Statement.{statement}
 use Rattle.machine.proofs.Machine.carried.Tie as tie
-use Rattle.machine.proofs.Machine.carried.Reads as reads
-use Rattle.machine.proofs.Machine.carried.Lts as lts
-use Rattle.engine.proofs.advance.Reads as advance-reads
-use Rattle.machine.proofs.steps.pace_of.Reads as pace-of-reads
 
--- src/steps.rt:43:13
 pace-of-requires : tie.Need-pace-of-requires
 pace-of-requires c κs = search needs
 
--- src/steps.rt:45:13
 advance-requires : tie.Need-advance-requires
 advance-requires c κs = search needs
 
--- src/steps.rt:35:5
 same-length : tie.Need-same-length
 same-length c = search needs
 
--- src/steps.rt:35:5
 same-length-2 : tie.Need-same-length-2
 same-length-2 c = search needs
 
--- src/steps.rt:35:5
 returns : tie.Need-returns
 returns c =
     carried-of (c .before .before .before .before .before .before .before .before .before .before .before .before .before .before .pre .0) (c .before .before .before .before .before .before .before .before .before .before .before .before .before .before .pre .1) (c .before .before .before .before .before .before .before .pace-of .ensures) (c .before .before .advance .ensures)

@@ -1,30 +1,24 @@
+-- `machine::steps::pace_of` meets its contract.
+-- Assumes nothing.
 use borrow.Author.Needs.{needs}
 use Rattle.machine.proofs.steps.pace_of.Statement.{statement}
 use Rattle.machine.proofs.steps.pace_of.Tie as tie
-use Rattle.machine.proofs.steps.pace_of.Reads as reads
-use Rattle.machine.proofs.steps.pace_of.Lts as lts
 
--- src/steps.rt:27:26
 enum-told : tie.Need-enum-told
 enum-told c = search needs
 
--- src/steps.rt:28:38
 enum-told-2 : tie.Need-enum-told-2
 enum-told-2 c = search needs
 
--- src/steps.rt:29:24
 enum-known-request : tie.Need-enum-known-request
 enum-known-request c = search needs
 
--- src/steps.rt:23:1
 returns : tie.Need-returns
 returns c = search needs
 
--- src/steps.rt:23:1
 returns-2 : tie.Need-returns-2
 returns-2 c = rw (c .enum-told2 .given .1)
 
--- src/steps.rt:23:1
 returns-3 : tie.Need-returns-3
 returns-3 c = rw (c .before .request .given .1)
 

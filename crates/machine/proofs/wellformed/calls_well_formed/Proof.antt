@@ -14,8 +14,8 @@ control start x = controlAt x (start .args .p) (start .args .t) (start .args .cl
 enum-told : tie.Need-enum-told
 enum-told c = search needs
 
-is-absent-requires : tie.Need-is-absent-requires
-is-absent-requires c κs = search needs
+is-empty-requires : tie.Need-is-empty-requires
+is-empty-requires c κs = search needs
 
 enum-known-first : tie.Need-enum-known-first
 enum-known-first c = search needs
@@ -29,8 +29,8 @@ over-gate-requires c κs = search needs
 enum-known-first-2 : tie.Need-enum-known-first-2
 enum-known-first-2 c = search needs
 
-is-absent-requires-2 : tie.Need-is-absent-requires-2
-is-absent-requires-2 c κs = search needs
+is-empty-requires-2 : tie.Need-is-empty-requires-2
+is-empty-requires-2 c κs = search needs
 
 upcall-well-formed-requires : tie.Need-upcall-well-formed-requires
 upcall-well-formed-requires c κs = search needs
@@ -38,7 +38,7 @@ upcall-well-formed-requires c κs = search needs
 returns : tie.Need-returns
 returns c =
     let start = c .before .before .before in
-    λ x. rw (c .before .enum-told .given .1, c .is-absent .ensures) (calls-empty (control start x) (start .args .second))
+    λ x. rw (c .before .enum-told .given .1, c .is-empty .ensures) (calls-empty (control start x) (start .args .second))
 
 returns-2 : tie.Need-returns-2
 returns-2 c =
@@ -51,7 +51,7 @@ returns-3 : tie.Need-returns-3
 returns-3 c =
     let upcall = c .before .before .before in
     let start = upcall .before .before in
-    λ x. rw (upcall .first2 .given .1, c .upcall-well-formed .ensures x, c .before .is-absent2 .ensures)
+    λ x. rw (upcall .first2 .given .1, c .upcall-well-formed .ensures x, c .before .is-empty2 .ensures)
     (calls-upcall (control start x) (upcall .first2 .given .0 .0) (upcall .first2 .given .0 .1 .0)
     (upcall .first2 .given .0 .1 .1 .0) (start .args .second))
 
@@ -60,12 +60,12 @@ calls-well-formed-spec =
     tie.close
     (tie.spec
     enum-told
-    is-absent-requires
+    is-empty-requires
     enum-known-first
     is-valid-pair-requires
     over-gate-requires
     enum-known-first-2
-    is-absent-requires-2
+    is-empty-requires-2
     upcall-well-formed-requires
     returns
     returns-2

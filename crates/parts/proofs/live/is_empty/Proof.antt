@@ -1,10 +1,9 @@
+-- `parts::live::is_empty` meets its contract.
+-- Assumes nothing.
 use Rattle.parts.proofs.Frames.{none-by-kind}
 use Rattle.parts.proofs.live.is_empty.Statement.{statement}
 use Rattle.parts.proofs.live.is_empty.Tie as tie
-use Rattle.parts.proofs.live.is_empty.Reads as reads
-use Rattle.parts.proofs.live.is_empty.Lts as lts
 
--- src/live.rt:53:1
 returns : tie.Need-returns
 returns c = none-by-kind _
 

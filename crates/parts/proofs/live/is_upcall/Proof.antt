@@ -1,10 +1,9 @@
+-- `parts::live::is_upcall` meets its contract.
+-- Assumes nothing.
 use Rattle.parts.proofs.Frames.{upcall-by-kind}
 use Rattle.parts.proofs.live.is_upcall.Statement.{statement}
 use Rattle.parts.proofs.live.is_upcall.Tie as tie
-use Rattle.parts.proofs.live.is_upcall.Reads as reads
-use Rattle.parts.proofs.live.is_upcall.Lts as lts
 
--- src/live.rt:65:1
 returns : tie.Need-returns
 returns c = upcall-by-kind _
 

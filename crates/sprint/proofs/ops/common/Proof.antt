@@ -10,14 +10,15 @@ use lib.ListN.{getD}
 use borrow.Author.Needs.{needs}
 use Rattle.labels.specs.Label.{labelCount}
 use Rattle.model.specs.Record.{State}
-use Rattle.model.specs.Word.{Op, opField, decode}
+use Rattle.model.specs.Word.{Op, Arithmetic, arithmetic, opField, decode}
 use Rattle.model.specs.Step.{Fetched, known, fetched}
 use Rattle.parts.specs.declared.stages.Reason.the-variants.{Rest}
-use Rattle.sprint.specs.Sprint.{Mirrors, view, Timed}
+use Rattle.sprint.specs.declared.Turn.{Turn}
+use Rattle.sprint.specs.Sprint.{Mirrors, stateWith, Timed}
+use Rattle.sprint.specs.Inner.Turns.{Combined, Common, Forward}
 use Rattle.sprint.proofs.Numbering.{op-of, no-op, none-uncommon, uncommon}
 use Rattle.sprint.proofs.Turning.{Here, Fields, immediate-turn, arithmetic-turn, load-turn, store-turn, branch-turn, jump-turn, clock-turn, stays}
 use lib.Dec.{lit≤}
-use Rattle.model.specs.Word.{multiply}
 use Rattle.model.proofs.Legal.{ticks-long}
 use Rattle.sprint.proofs.LoopForward.{stopping-forward, timed-forward, gone-forward}
 use Rattle.sprint.proofs.ops.common.Statement.{statement}
@@ -27,7 +28,7 @@ use Rattle.sprint.proofs.ops.common.Tie as tie
 
 -- The start.
 abbrev started : tie.After-op-of → tie.Start
-started c = c .before .before .before .before .before .before .before .before
+started c = c .before .before .before .before .before .before
 
 -- The word.
 abbrev word : tie.After-op-of → ℕ
@@ -37,7 +38,7 @@ word c = started c .args .spot .word
 abbrev held : tie.After-op-of → State → List ℕ → State
 held c s labels =
     let args = started c .args in
-    view s (args .context) (args .spot .pc) (args .spot .left) (now (args .values)) labels (now (args .words)) (now (args .marks))
+    stateWith s (args .context) (args .spot .pc) (args .spot .left) (now (args .values)) labels (now (args .words)) (now (args .marks))
 
 -- The loop's view fits it.
 told : (c : tie.After-op-of) (s : State) (labels : List ℕ) → Mirrors labels (now (started c .args .turned))
@@ -48,8 +49,8 @@ told c s labels m l t = record { mirrors = m; left = l; timed = t }
 
 -- The numbers of the word's registers.
 fields : (c : tie.After-op-of)
-    → Fields (word c) (c .before .before .before .before .a-of .result) (c .before .before .before .b-of .result)
-fields c = record { ra = c .before .before .before .before .a-of .ensures .0; rb = c .before .before .before .b-of .ensures .0 }
+    → Fields (word c) (c .before .before .a-of .result) (c .before .b-of .result)
+fields c = record { ra = c .before .before .a-of .ensures .0; rb = c .before .b-of .ensures .0 }
 
 -- Its op, where that has the number k.
 op-is : (c : tie.After-op-of) {f : Fetched} {k : ℕ} {op : Op} → f ≡ known (word c) (decode (opField (word c)))
@@ -68,7 +69,21 @@ timing-below c = search needs
 
 -- The label of a word.
 mark-below : (c : tie.After-op-of) (i : ℕ) → getD (now (started c .args .marks)) i 0 < labelCount
-mark-below c i = omega (arith, c .before .before .before .before .before .before .shared-slice-known .given i)
+mark-below c i = omega (arith, c .before .before .before .before .shared-slice-known .given i)
+
+-- ---- an arithmetic op
+
+-- Its turn, where the op has the number k.
+combined : (c : tie.After-op-of) {k : ℕ} {o : Arithmetic} {r : Turn} {values′ : List ℕ} → c .op-of .result ≡ k
+    → decode k ≡ some (arithmetic o)
+    → Combined o (started c .args .spot) (started c .args .context .pair) (now (started c .args .values)) (now (started c .args .turned)) r values′
+    → Common (started c .args .context) (started c .args .spot) (now (started c .args .values)) (now (started c .args .turned))
+    (now (started c .args .words)) (now (started c .args .marks)) r values′ (now (started c .args .words))
+    × Forward (started c .args .spot) r
+combined c {o = o} e d h = (
+  λ s labels m l t f. arithmetic-turn (told c s labels m l t) (timing-below c) (op-is c f e d) h,
+  timed-forward (started c .args .spot) _ _ (ticks-long o _ _) (h .turn),
+)
 
 -- ---- the needs
 
@@ -78,38 +93,14 @@ a-of-requires c κs = search needs
 b-of-requires : tie.Need-b-of-requires
 b-of-requires c κs = search needs
 
-mul-rb : tie.Need-mul-rb
-mul-rb c = search needs
-
-element-copy-out-rb : tie.Need-element-copy-out-rb
-element-copy-out-rb c = search needs
-
-element-copy-out-lb : tie.Need-element-copy-out-lb
-element-copy-out-lb c = search needs
-
 op-of-requires : tie.Need-op-of-requires
 op-of-requires c κs = search needs
 
 stopping-requires : tie.Need-stopping-requires
 stopping-requires c κs = search needs
 
-restrictions-requires : tie.Need-restrictions-requires
-restrictions-requires c κs = search needs
-
-add-may-go : tie.Need-add-may-go
-add-may-go c = search needs
-
-element-copy-out-may-go : tie.Need-element-copy-out-may-go
-element-copy-out-may-go c = search needs
-
-may-go-requires : tie.Need-may-go-requires
-may-go-requires c κs = search needs
-
-n-of-requires : tie.Need-n-of-requires
-n-of-requires c κs = search needs
-
-assign-requires : tie.Need-assign-requires
-assign-requires c κs = search needs
+immediate-requires : tie.Need-immediate-requires
+immediate-requires c κs = search needs
 
 combine-requires : tie.Need-combine-requires
 combine-requires c κs = search needs
@@ -138,14 +129,17 @@ load-requires c κs = search needs
 store-requires : tie.Need-store-requires
 store-requires c κs = search needs
 
+element-copy-out-may-go : tie.Need-element-copy-out-may-go
+element-copy-out-may-go c = search needs
+
 element-copy-out-may-go-2 : tie.Need-element-copy-out-may-go-2
 element-copy-out-may-go-2 c = search needs
 
 lacking-requires : tie.Need-lacking-requires
 lacking-requires c κs = search needs
 
-may-go-requires-2 : tie.Need-may-go-requires-2
-may-go-requires-2 c κs = search needs
+may-go-requires : tie.Need-may-go-requires
+may-go-requires c κs = search needs
 
 mul-go : tie.Need-mul-go
 mul-go c = search needs
@@ -153,8 +147,14 @@ mul-go c = search needs
 element-copy-out-go : tie.Need-element-copy-out-go
 element-copy-out-go c = search needs
 
-n-of-requires-2 : tie.Need-n-of-requires-2
-n-of-requires-2 c κs = search needs
+mul-go-2 : tie.Need-mul-go-2
+mul-go-2 c = search needs
+
+element-copy-out-go-2 : tie.Need-element-copy-out-go-2
+element-copy-out-go-2 c = search needs
+
+n-of-requires : tie.Need-n-of-requires
+n-of-requires c κs = search needs
 
 go-requires : tie.Need-go-requires
 go-requires c κs = search needs
@@ -162,56 +162,53 @@ go-requires c κs = search needs
 element-copy-out-may-go-3 : tie.Need-element-copy-out-may-go-3
 element-copy-out-may-go-3 c = search needs
 
+element-copy-out-may-go-4 : tie.Need-element-copy-out-may-go-4
+element-copy-out-may-go-4 c = search needs
+
 lacking-requires-2 : tie.Need-lacking-requires-2
 lacking-requires-2 c κs = search needs
 
-may-go-requires-3 : tie.Need-may-go-requires-3
-may-go-requires-3 c κs = search needs
+may-go-requires-2 : tie.Need-may-go-requires-2
+may-go-requires-2 c κs = search needs
 
-mul-go-2 : tie.Need-mul-go-2
-mul-go-2 c = search needs
+mul-go-3 : tie.Need-mul-go-3
+mul-go-3 c = search needs
 
-element-copy-out-go-2 : tie.Need-element-copy-out-go-2
-element-copy-out-go-2 c = search needs
+element-copy-out-go-3 : tie.Need-element-copy-out-go-3
+element-copy-out-go-3 c = search needs
 
-n-of-requires-3 : tie.Need-n-of-requires-3
-n-of-requires-3 c κs = search needs
+mul-go-4 : tie.Need-mul-go-4
+mul-go-4 c = search needs
+
+element-copy-out-go-4 : tie.Need-element-copy-out-go-4
+element-copy-out-go-4 c = search needs
+
+n-of-requires-2 : tie.Need-n-of-requires-2
+n-of-requires-2 c κs = search needs
 
 go-requires-2 : tie.Need-go-requires-2
 go-requires-2 c κs = search needs
 
+element-copy-out-may-go-5 : tie.Need-element-copy-out-may-go-5
+element-copy-out-may-go-5 c = search needs
+
 lacking-requires-3 : tie.Need-lacking-requires-3
 lacking-requires-3 c κs = search needs
 
-may-go-requires-4 : tie.Need-may-go-requires-4
-may-go-requires-4 c κs = search needs
+may-go-requires-3 : tie.Need-may-go-requires-3
+may-go-requires-3 c κs = search needs
+
+mul-go-5 : tie.Need-mul-go-5
+mul-go-5 c = search needs
+
+element-copy-out-go-5 : tie.Need-element-copy-out-go-5
+element-copy-out-go-5 c = search needs
 
 go-requires-3 : tie.Need-go-requires-3
 go-requires-3 c κs = search needs
 
-restrictions-requires-2 : tie.Need-restrictions-requires-2
-restrictions-requires-2 c κs = search needs
-
-restrictions-requires-3 : tie.Need-restrictions-requires-3
-restrictions-requires-3 c κs = search needs
-
-add-may-go-2 : tie.Need-add-may-go-2
-add-may-go-2 c = search needs
-
-element-copy-out-may-go-4 : tie.Need-element-copy-out-may-go-4
-element-copy-out-may-go-4 c = search needs
-
-may-go-requires-5 : tie.Need-may-go-requires-5
-may-go-requires-5 c κs = search needs
-
-wrapping-add-u32-requires : tie.Need-wrapping-add-u32-requires
-wrapping-add-u32-requires c κs = search needs
-
-wrapping-sub-u32-requires : tie.Need-wrapping-sub-u32-requires
-wrapping-sub-u32-requires c κs = search needs
-
-assign-requires-2 : tie.Need-assign-requires-2
-assign-requires-2 c κs = search needs
+read-clock-requires : tie.Need-read-clock-requires
+read-clock-requires c κs = search needs
 
 combine-requires-8 : tie.Need-combine-requires-8
 combine-requires-8 c κs = search needs
@@ -227,35 +224,35 @@ returns c = let at = c .before .before in (λ s labels m l t f. stays (held at s
 
 returns-2 : tie.Need-returns-2
 unfolding decode
-returns-2 c = let at = c .before .before .before .before .before .before .before in (λ s labels m l t f. immediate-turn (told at s labels m l t) (op-is at f (c .before .before .before .before .before .before .match .keys2) refl) (fields at) (c .assign .ensures) (c .before .before .before .may-go .ensures) (c .before .before .before .before .before .restrictions .ensures) (c .before .n-of .ensures), timed-forward (started at .args .spot) 1 _ (lit≤ tt) (c .assign .ensures .turn))
+returns-2 c = let at = c .before .before .before in (λ s labels m l t f. immediate-turn (told at s labels m l t) (op-is at f (c .before .before .match .keys2) refl) (c .immediate .ensures), timed-forward (started at .args .spot) 1 _ (lit≤ tt) (c .immediate .ensures .turn))
 
 returns-3 : tie.Need-returns-3
 unfolding decode
-returns-3 c = let at = c .before .before .before in (λ s labels m l t f. arithmetic-turn (told at s labels m l t) (timing-below at) (op-is at f (c .before .before .match .keys3) refl) (c .combine .ensures), timed-forward (started at .args .spot) 1 _ (lit≤ tt) (c .combine .ensures .turn))
+returns-3 c = combined (c .before .before .before) (c .before .before .match .keys3) refl (c .combine .ensures)
 
 returns-4 : tie.Need-returns-4
 unfolding decode
-returns-4 c = let at = c .before .before .before in (λ s labels m l t f. arithmetic-turn (told at s labels m l t) (timing-below at) (op-is at f (c .before .before .match .keys4) refl) (c .combine2 .ensures), timed-forward (started at .args .spot) 1 _ (lit≤ tt) (c .combine2 .ensures .turn))
+returns-4 c = combined (c .before .before .before) (c .before .before .match .keys4) refl (c .combine2 .ensures)
 
 returns-5 : tie.Need-returns-5
 unfolding decode
-returns-5 c = let at = c .before .before .before in (λ s labels m l t f. arithmetic-turn (told at s labels m l t) (timing-below at) (op-is at f (c .before .before .match .keys5) refl) (c .combine3 .ensures), timed-forward (started at .args .spot) 1 _ (lit≤ tt) (c .combine3 .ensures .turn))
+returns-5 c = combined (c .before .before .before) (c .before .before .match .keys5) refl (c .combine3 .ensures)
 
 returns-6 : tie.Need-returns-6
 unfolding decode
-returns-6 c = let at = c .before .before .before in (λ s labels m l t f. arithmetic-turn (told at s labels m l t) (timing-below at) (op-is at f (c .before .before .match .keys6) refl) (c .combine4 .ensures), timed-forward (started at .args .spot) 1 _ (lit≤ tt) (c .combine4 .ensures .turn))
+returns-6 c = combined (c .before .before .before) (c .before .before .match .keys6) refl (c .combine4 .ensures)
 
 returns-7 : tie.Need-returns-7
 unfolding decode
-returns-7 c = let at = c .before .before .before in (λ s labels m l t f. arithmetic-turn (told at s labels m l t) (timing-below at) (op-is at f (c .before .before .match .keys7) refl) (c .combine5 .ensures), timed-forward (started at .args .spot) 1 _ (lit≤ tt) (c .combine5 .ensures .turn))
+returns-7 c = combined (c .before .before .before) (c .before .before .match .keys7) refl (c .combine5 .ensures)
 
 returns-8 : tie.Need-returns-8
 unfolding decode
-returns-8 c = let at = c .before .before .before in (λ s labels m l t f. arithmetic-turn (told at s labels m l t) (timing-below at) (op-is at f (c .before .before .match .keys8) refl) (c .combine6 .ensures), timed-forward (started at .args .spot) 1 _ (lit≤ tt) (c .combine6 .ensures .turn))
+returns-8 c = combined (c .before .before .before) (c .before .before .match .keys8) refl (c .combine6 .ensures)
 
 returns-9 : tie.Need-returns-9
 unfolding decode
-returns-9 c = let at = c .before .before .before in (λ s labels m l t f. arithmetic-turn (told at s labels m l t) (timing-below at) (op-is at f (c .before .before .match .keys9) refl) (c .combine7 .ensures), timed-forward (started at .args .spot) _ _ (ticks-long multiply _ _) (c .combine7 .ensures .turn))
+returns-9 c = combined (c .before .before .before) (c .before .before .match .keys9) refl (c .combine7 .ensures)
 
 same-length : tie.Need-same-length
 same-length c = search needs
@@ -273,27 +270,27 @@ returns-11 c = let at = c .before .before .before .before .before .before in (λ
 
 returns-12 : tie.Need-returns-12
 unfolding decode
-returns-12 c = let at = c .before .before .before .before .before .before .before in (λ s labels m l t f. branch-turn (told at s labels m l t) (pc-below at) (op-is at f (c .before .before .before .before .before .before .match .keys12) refl) (fields at) (c .go .ensures) (c .before .before .before .may-go2 .ensures) (c .before .before .before .before .lacking .ensures) refl (c .before .n-of2 .ensures), gone-forward (started at .args .spot) _ _ _ _ (c .go .ensures))
+returns-12 c = let at = c .before .before .before .before .before .before .before .before .before in (λ s labels m l t f. branch-turn (told at s labels m l t) (pc-below at) (op-is at f (c .before .before .before .before .before .before .before .before .match .keys12) refl) (fields at) (c .go .ensures) (c .before .before .before .before .may-go .ensures) (c .before .before .before .before .before .lacking .ensures) refl (c .before .n-of .ensures), gone-forward (started at .args .spot) _ _ _ _ (c .go .ensures))
 
 returns-13 : tie.Need-returns-13
 unfolding decode
-returns-13 c = let at = c .before .before .before .before .before .before .before in (λ s labels m l t f. branch-turn (told at s labels m l t) (pc-below at) (op-is at f (c .before .before .before .before .before .before .match .keys13) refl) (fields at) (c .go2 .ensures) (c .before .before .before .may-go3 .ensures) (c .before .before .before .before .lacking2 .ensures) refl (c .before .n-of3 .ensures), gone-forward (started at .args .spot) _ _ _ _ (c .go2 .ensures))
+returns-13 c = let at = c .before .before .before .before .before .before .before .before .before in (λ s labels m l t f. branch-turn (told at s labels m l t) (pc-below at) (op-is at f (c .before .before .before .before .before .before .before .before .match .keys13) refl) (fields at) (c .go2 .ensures) (c .before .before .before .before .may-go2 .ensures) (c .before .before .before .before .before .lacking2 .ensures) refl (c .before .n-of2 .ensures), gone-forward (started at .args .spot) _ _ _ _ (c .go2 .ensures))
 
 returns-14 : tie.Need-returns-14
 unfolding decode
-returns-14 c = let at = c .before .before .before .before in (λ s labels m l t f. jump-turn (told at s labels m l t) (pc-below at) (op-is at f (c .before .before .before .match .keys14) refl) (fields at) (c .go3 .ensures) (c .before .may-go4 .ensures) (c .before .before .lacking3 .ensures), gone-forward (started at .args .spot) _ _ _ _ (c .go3 .ensures))
+returns-14 c = let at = c .before .before .before .before .before .before in (λ s labels m l t f. jump-turn (told at s labels m l t) (pc-below at) (op-is at f (c .before .before .before .before .before .match .keys14) refl) (fields at) (c .go3 .ensures) (c .before .before .may-go3 .ensures) (c .before .before .before .lacking3 .ensures), gone-forward (started at .args .spot) _ _ _ _ (c .go3 .ensures))
 
 returns-15 : tie.Need-returns-15
 unfolding decode
-returns-15 c = let at = c .before .before .before .before .before .before .before .before .before in (λ s labels m l t f. clock-turn (told at s labels m l t) (op-is at f (c .before .before .before .before .before .before .before .before .match .keys15) refl) (fields at) (c .assign2 .ensures) (c .before .before .before .before .may-go5 .ensures) (c .before .before .before .before .before .before .before .restrictions2 .ensures) (c .before .before .before .before .before .before .restrictions3 .ensures) (c .before .before .before .wrapping-add-u32 .ensures) (c .before .before .wrapping-sub-u32 .ensures) (omega arith), timed-forward (started at .args .spot) 1 _ (lit≤ tt) (c .assign2 .ensures .turn))
+returns-15 c = let at = c .before .before .before in (λ s labels m l t f. clock-turn (told at s labels m l t) (op-is at f (c .before .before .match .keys15) refl) (c .read-clock .ensures), timed-forward (started at .args .spot) 1 _ (lit≤ tt) (c .read-clock .ensures .assigned .turn))
 
 returns-16 : tie.Need-returns-16
 unfolding decode
-returns-16 c = let at = c .before .before .before in (λ s labels m l t f. arithmetic-turn (told at s labels m l t) (timing-below at) (op-is at f (c .before .before .match .keys16) refl) (c .combine8 .ensures), timed-forward (started at .args .spot) 34 _ (lit≤ tt) (c .combine8 .ensures .turn))
+returns-16 c = combined (c .before .before .before) (c .before .before .match .keys16) refl (c .combine8 .ensures)
 
 returns-17 : tie.Need-returns-17
 unfolding decode
-returns-17 c = let at = c .before .before .before in (λ s labels m l t f. arithmetic-turn (told at s labels m l t) (timing-below at) (op-is at f (c .before .before .match .keys17) refl) (c .combine9 .ensures), timed-forward (started at .args .spot) 34 _ (lit≤ tt) (c .combine9 .ensures .turn))
+returns-17 c = combined (c .before .before .before) (c .before .before .match .keys17) refl (c .combine9 .ensures)
 
 returns-18 : tie.Need-returns-18
 returns-18 c = let at = c .before .before in (λ s labels m l t f. stays (held at s labels) (started at .args .context .deadline) (started at .args .spot .left) (Rest (word at)) (c .stopping2 .ensures) (record { word = f; within = started at .pre .0; op = uncommon (word at) (at .op-of .ensures) (c .before .match .rest) }), stopping-forward (started at .args .spot) (Rest (word at)) (c .stopping2 .ensures))
@@ -304,17 +301,9 @@ common-spec =
     (tie.spec
     a-of-requires
     b-of-requires
-    mul-rb
-    element-copy-out-rb
-    element-copy-out-lb
     op-of-requires
     stopping-requires
-    restrictions-requires
-    add-may-go
-    element-copy-out-may-go
-    may-go-requires
-    n-of-requires
-    assign-requires
+    immediate-requires
     combine-requires
     combine-requires-2
     combine-requires-3
@@ -324,31 +313,33 @@ common-spec =
     combine-requires-7
     load-requires
     store-requires
+    element-copy-out-may-go
     element-copy-out-may-go-2
     lacking-requires
-    may-go-requires-2
+    may-go-requires
     mul-go
     element-copy-out-go
-    n-of-requires-2
-    go-requires
-    element-copy-out-may-go-3
-    lacking-requires-2
-    may-go-requires-3
     mul-go-2
     element-copy-out-go-2
-    n-of-requires-3
-    go-requires-2
-    lacking-requires-3
-    may-go-requires-4
-    go-requires-3
-    restrictions-requires-2
-    restrictions-requires-3
-    add-may-go-2
+    n-of-requires
+    go-requires
+    element-copy-out-may-go-3
     element-copy-out-may-go-4
-    may-go-requires-5
-    wrapping-add-u32-requires
-    wrapping-sub-u32-requires
-    assign-requires-2
+    lacking-requires-2
+    may-go-requires-2
+    mul-go-3
+    element-copy-out-go-3
+    mul-go-4
+    element-copy-out-go-4
+    n-of-requires-2
+    go-requires-2
+    element-copy-out-may-go-5
+    lacking-requires-3
+    may-go-requires-3
+    mul-go-5
+    element-copy-out-go-5
+    go-requires-3
+    read-clock-requires
     combine-requires-8
     combine-requires-9
     stopping-requires-2

@@ -1,8 +1,9 @@
 -- `sprint::ops::ticks_at` meets its contract.
 -- Assumes nothing.
 use borrow.Author.Needs.{needs}
-use native.Mathlib.Omega.{arith}
-use Rattle.sprint.proofs.Ticks.{brief, load-ticks, store-ticks, divide-ticks, remainder-ticks, multiply-ticks}
+use mathlib.Core.Path.{refl, _∙_}
+use Rattle.model.specs.Word.{divide, remainder, arithmetic, load, store, decode}
+use Rattle.sprint.proofs.Ticks.{brief, ticks-by, multiply-by}
 use Rattle.sprint.proofs.ops.ticks_at.Statement.{statement}
 use Rattle.sprint.proofs.ops.ticks_at.Tie as tie
 
@@ -57,22 +58,28 @@ ticks-of-requires-3 c κs = search needs
 returns : tie.Need-returns
 returns c =
     let at = c .before .before .before .before .before .before .before in
-    multiply-ticks _ _ _ _ (at .op-of .ensures) (omega arith) (c .before .before .before .before .before .before .match .keys1) (at .before .before .b-of .ensures) (at .before .c-of .ensures)
-    (c .before .before .before .lacking .ensures) (c .before .before .may-go .ensures) (c .ticks-of .ensures)
+    multiply-by _ _ _ _ (at .op-of .ensures) (c .before .before .before .before .before .before .match .keys1) (at .before .before .b-of .ensures .0)
+    (at .before .c-of .ensures .0) (c .before .before .before .lacking .ensures) (c .before .before .may-go .ensures) (c .ticks-of .ensures .0)
 
 returns-2 : tie.Need-returns-2
-returns-2 c = load-ticks _ _ _ _ (c .before .op-of .ensures) (c .match .keys2)
+unfolding decode
+returns-2 c = ticks-by _ _ _ _ (c .before .op-of .ensures) load (c .match .keys2) refl
 
 returns-3 : tie.Need-returns-3
-returns-3 c = store-ticks _ _ _ _ (c .before .op-of .ensures) (c .match .keys3)
+unfolding decode
+returns-3 c = ticks-by _ _ _ _ (c .before .op-of .ensures) store (c .match .keys3) refl
 
 returns-4 : tie.Need-returns-4
+unfolding decode
 returns-4 c =
-    let arm = c .before .before in divide-ticks _ _ _ _ (arm .before .op-of .ensures) (arm .match .keys4) (c .ticks-of2 .ensures)
+    let arm = c .before .before in
+    c .ticks-of2 .ensures .0 ∙ ticks-by _ _ _ _ (arm .before .op-of .ensures) (arithmetic divide) (arm .match .keys4) refl
 
 returns-5 : tie.Need-returns-5
+unfolding decode
 returns-5 c =
-    let arm = c .before .before in remainder-ticks _ _ _ _ (arm .before .op-of .ensures) (arm .match .keys5) (c .ticks-of3 .ensures)
+    let arm = c .before .before in
+    c .ticks-of3 .ensures .0 ∙ ticks-by _ _ _ _ (arm .before .op-of .ensures) (arithmetic remainder) (arm .match .keys5) refl
 
 returns-6 : tie.Need-returns-6
 returns-6 c = brief _ _ _ _ (c .before .op-of .ensures) (c .match .rest)
