@@ -51,13 +51,35 @@ assign-requires : tie.Need-assign-requires
 assign-requires c κs = search needs
 
 returns : tie.Need-returns
-returns c = record { turn = c .assign .ensures .turn; values = rw (← c .before .before .before .before .before .before .before .before .before .before .before .before .before .before .a-of .ensures .0, ← c .before .before .before .before .before .before .before .before .before .before .before .before .before .b-of .ensures .0, lt-ltb _ _ (c .before .before .before .before .before .before .before .before .before .before .if1 .taken), ← c .before .before .before .before .before .before .before .before .before .index .ensures, ← c .before .before .before .before .before .before .before .before .restrictions .ensures, ← c .before .before .before .before .before .restrictions2 .ensures, ← c .before .before .before .may-go .ensures) (c .assign .ensures .values) }
+returns c =
+    let check = c .before .before .before in
+    let inside = check .before .before .before .before .before .before .before in
+    let fields = inside .before .before .before in
+    record {
+      turn = c .assign .ensures .turn;
+      values =
+          rw (
+            ← fields .before .a-of .ensures .0,
+            ← fields .b-of .ensures .0,
+            lt-ltb _ _ (inside .if1 .taken),
+            ← check .before .before .before .before .before .before .index .ensures,
+            ← check .before .before .before .before .before .restrictions .ensures,
+            ← check .before .before .restrictions2 .ensures,
+            ← check .may-go .ensures,
+          ) (c .assign .ensures .values);
+    }
 
 assign-requires-2 : tie.Need-assign-requires-2
 assign-requires-2 c κs = search needs
 
 returns-2 : tie.Need-returns-2
-returns-2 c = record { turn = c .assign2 .ensures .turn; values = rw (← c .before .before .before .before .before .b-of .ensures .0, le-ltb _ _ (c .before .before .if1 .left)) (c .assign2 .ensures .values) }
+returns-2 c =
+    record {
+      turn = c .assign2 .ensures .turn;
+      values =
+          rw (← c .before .before .before .before .before .b-of .ensures .0, le-ltb _ _ (c .before .before .if1 .left))
+          (c .assign2 .ensures .values);
+    }
 
 pub load-spec : {M : Type 1} → statement M
 load-spec =

@@ -45,7 +45,17 @@ same-length : tie.Need-same-length
 same-length c = search needs
 
 returns : tie.Need-returns
-returns c = record { turn = rw (lt-ltb _ _ (c .before .before .before .before .before .before .before .before .before .before .before .if1 .taken)) (c .going .ensures); words = rw (← c .before .before .before .before .before .before .before .before .before .before .before .before .before .before .a-of .ensures .0, ← c .before .before .before .before .before .before .before .before .before .before .before .before .before .b-of .ensures .0, lt-ltb _ _ (c .before .before .before .before .before .before .before .before .before .before .before .if1 .taken), ← c .before .before .before .before .before .before .before .before .before .before .restrictions .ensures) (c .before .before .before .before .put-word .ensures) }
+returns c =
+    let put = c .before .before .before .before in
+    let timely = put .before .before .before .before .before .before .before in
+    let fields = timely .before .before in
+    let in-time = lt-ltb _ _ (timely .if1 .taken) in
+    record {
+      turn = rw in-time (c .going .ensures);
+      words =
+          rw (← fields .before .a-of .ensures .0, ← fields .b-of .ensures .0, in-time, ← put .before .before .before .before .before .before .restrictions .ensures)
+          (put .put-word .ensures);
+    }
 
 stopping-requires : tie.Need-stopping-requires
 stopping-requires c κs = search needs

@@ -21,7 +21,12 @@ going-requires c κs = search needs
 
 returns : tie.Need-returns
 unfolding writable
-returns c = record { turn = rw (lt-ltb _ _ (c .before .before .before .if1 .taken)) (c .going .ensures); values = rw (lt-ltb _ _ (c .before .before .before .if1 .taken)) (⊎-elim (λ h. rw (h .0 .taken) (h .1)) (λ h. rw (h .0 .left) (h .1)) (c .before .before .if2 .came)) }
+returns c =
+    let in-time = lt-ltb _ _ (c .before .before .before .if1 .taken) in
+    record {
+      turn = rw in-time (c .going .ensures);
+      values = rw in-time (⊎-elim (λ h. rw (h .0 .taken) (h .1)) (λ h. rw (h .0 .left) (h .1)) (c .before .before .if2 .came));
+    }
 
 stopping-requires : tie.Need-stopping-requires
 stopping-requires c κs = search needs

@@ -60,7 +60,20 @@ assign-requires : tie.Need-assign-requires
 assign-requires c κs = search needs
 
 returns : tie.Need-returns
-returns c = rw (← c .before .before .before .before .before .before .before .before .before .before .before .before .before .before .before .a-of .ensures .0, ← c .before .before .before .before .before .before .before .before .before .before .before .before .before .before .b-of .ensures .0, ← c .before .before .before .before .before .before .before .before .before .before .before .before .before .c-of .ensures .0, ← c .before .before .before .before .before .before .before .restrictions .ensures, ← c .before .before .before .before .before .before .before .before .before .lacking .ensures, ← c .before .before .before .before .before .before .before .before .may-go .ensures, ← c .before .before .before .before .before .may-go2 .ensures, ← c .before .ticks-of .ensures .0) (assigned-if (c .before .before .before .before .before .may-go2 .result) (c .before .before .before .computed .ensures) (c .assign .ensures))
+returns c =
+    let check = c .before .before .before .before .before in
+    let shown = check .before .before .before in
+    let fields = shown .before .before .before .before .before in
+    rw (
+      ← fields .before .before .a-of .ensures .0,
+      ← fields .before .b-of .ensures .0,
+      ← fields .c-of .ensures .0,
+      ← check .before .before .restrictions .ensures,
+      ← shown .before .lacking .ensures,
+      ← shown .may-go .ensures,
+      ← check .may-go2 .ensures,
+      ← c .before .ticks-of .ensures .0,
+    ) (assigned-if (check .may-go2 .result) (c .before .before .before .computed .ensures) (c .assign .ensures))
 
 pub combine-spec : {M : Type 1} → statement M
 combine-spec =

@@ -220,11 +220,19 @@ stopping-requires-2 : tie.Need-stopping-requires-2
 stopping-requires-2 c κs = search needs
 
 returns : tie.Need-returns
-returns c = let at = c .before .before in (λ s labels m l t f. stays (held at s labels) (started at .args .context .deadline) (started at .args .spot .left) (Rest 0) (c .stopping .ensures) (record { word = no-op (word at) f (at .op-of .ensures) (c .before .match .keys1); within = started at .pre .0; op = none-uncommon }), stopping-forward (started at .args .spot) (Rest 0) (c .stopping .ensures))
+returns c =
+    let at = c .before .before in (
+      λ s labels m l t f. stays (held at s labels) (started at .args .context .deadline) (started at .args .spot .left) (Rest 0) (c .stopping .ensures) (record { word = no-op (word at) f (at .op-of .ensures) (c .before .match .keys1); within = started at .pre .0; op = none-uncommon }),
+      stopping-forward (started at .args .spot) (Rest 0) (c .stopping .ensures),
+    )
 
 returns-2 : tie.Need-returns-2
 unfolding decode
-returns-2 c = let at = c .before .before .before in (λ s labels m l t f. immediate-turn (told at s labels m l t) (op-is at f (c .before .before .match .keys2) refl) (c .immediate .ensures), timed-forward (started at .args .spot) 1 _ (lit≤ tt) (c .immediate .ensures .turn))
+returns-2 c =
+    let at = c .before .before .before in (
+      λ s labels m l t f. immediate-turn (told at s labels m l t) (op-is at f (c .before .before .match .keys2) refl) (c .immediate .ensures),
+      timed-forward (started at .args .spot) 1 _ (lit≤ tt) (c .immediate .ensures .turn),
+    )
 
 returns-3 : tie.Need-returns-3
 unfolding decode
@@ -259,30 +267,54 @@ same-length c = search needs
 
 returns-10 : tie.Need-returns-10
 unfolding decode
-returns-10 c = let at = c .before .before .before .before in (λ s labels m l t f. load-turn (told at s labels m l t) (op-is at f (c .before .before .before .match .keys10) refl) (c .load .ensures), timed-forward (started at .args .spot) 3 _ (lit≤ tt) (c .load .ensures .turn))
+returns-10 c =
+    let at = c .before .before .before .before in (
+      λ s labels m l t f. load-turn (told at s labels m l t) (op-is at f (c .before .before .before .match .keys10) refl) (c .load .ensures),
+      timed-forward (started at .args .spot) 3 _ (lit≤ tt) (c .load .ensures .turn),
+    )
 
 same-length-2 : tie.Need-same-length-2
 same-length-2 c = search needs
 
 returns-11 : tie.Need-returns-11
 unfolding decode
-returns-11 c = let at = c .before .before .before .before .before .before in (λ s labels m l t f. store-turn (told at s labels m l t) (op-is at f (c .before .before .before .before .before .match .keys11) refl) (mark-below at _) (c .before .before .store .ensures), timed-forward (started at .args .spot) 3 _ (lit≤ tt) (c .before .before .store .ensures .turn))
+returns-11 c =
+    let at = c .before .before .before .before .before .before in (
+      λ s labels m l t f. store-turn (told at s labels m l t) (op-is at f (c .before .before .before .before .before .match .keys11) refl) (mark-below at _) (c .before .before .store .ensures),
+      timed-forward (started at .args .spot) 3 _ (lit≤ tt) (c .before .before .store .ensures .turn),
+    )
 
 returns-12 : tie.Need-returns-12
 unfolding decode
-returns-12 c = let at = c .before .before .before .before .before .before .before .before .before in (λ s labels m l t f. branch-turn (told at s labels m l t) (pc-below at) (op-is at f (c .before .before .before .before .before .before .before .before .match .keys12) refl) (fields at) (c .go .ensures) (c .before .before .before .before .may-go .ensures) (c .before .before .before .before .before .lacking .ensures) refl (c .before .n-of .ensures), gone-forward (started at .args .spot) _ _ _ _ (c .go .ensures))
+returns-12 c =
+    let at = c .before .before .before .before .before .before .before .before .before in (
+      λ s labels m l t f. branch-turn (told at s labels m l t) (pc-below at) (op-is at f (c .before .before .before .before .before .before .before .before .match .keys12) refl) (fields at) (c .go .ensures) (c .before .before .before .before .may-go .ensures) (c .before .before .before .before .before .lacking .ensures) refl (c .before .n-of .ensures),
+      gone-forward (started at .args .spot) _ _ _ _ (c .go .ensures),
+    )
 
 returns-13 : tie.Need-returns-13
 unfolding decode
-returns-13 c = let at = c .before .before .before .before .before .before .before .before .before in (λ s labels m l t f. branch-turn (told at s labels m l t) (pc-below at) (op-is at f (c .before .before .before .before .before .before .before .before .match .keys13) refl) (fields at) (c .go2 .ensures) (c .before .before .before .before .may-go2 .ensures) (c .before .before .before .before .before .lacking2 .ensures) refl (c .before .n-of2 .ensures), gone-forward (started at .args .spot) _ _ _ _ (c .go2 .ensures))
+returns-13 c =
+    let at = c .before .before .before .before .before .before .before .before .before in (
+      λ s labels m l t f. branch-turn (told at s labels m l t) (pc-below at) (op-is at f (c .before .before .before .before .before .before .before .before .match .keys13) refl) (fields at) (c .go2 .ensures) (c .before .before .before .before .may-go2 .ensures) (c .before .before .before .before .before .lacking2 .ensures) refl (c .before .n-of2 .ensures),
+      gone-forward (started at .args .spot) _ _ _ _ (c .go2 .ensures),
+    )
 
 returns-14 : tie.Need-returns-14
 unfolding decode
-returns-14 c = let at = c .before .before .before .before .before .before in (λ s labels m l t f. jump-turn (told at s labels m l t) (pc-below at) (op-is at f (c .before .before .before .before .before .match .keys14) refl) (fields at) (c .go3 .ensures) (c .before .before .may-go3 .ensures) (c .before .before .before .lacking3 .ensures), gone-forward (started at .args .spot) _ _ _ _ (c .go3 .ensures))
+returns-14 c =
+    let at = c .before .before .before .before .before .before in (
+      λ s labels m l t f. jump-turn (told at s labels m l t) (pc-below at) (op-is at f (c .before .before .before .before .before .match .keys14) refl) (fields at) (c .go3 .ensures) (c .before .before .may-go3 .ensures) (c .before .before .before .lacking3 .ensures),
+      gone-forward (started at .args .spot) _ _ _ _ (c .go3 .ensures),
+    )
 
 returns-15 : tie.Need-returns-15
 unfolding decode
-returns-15 c = let at = c .before .before .before in (λ s labels m l t f. clock-turn (told at s labels m l t) (op-is at f (c .before .before .match .keys15) refl) (c .read-clock .ensures), timed-forward (started at .args .spot) 1 _ (lit≤ tt) (c .read-clock .ensures .assigned .turn))
+returns-15 c =
+    let at = c .before .before .before in (
+      λ s labels m l t f. clock-turn (told at s labels m l t) (op-is at f (c .before .before .match .keys15) refl) (c .read-clock .ensures),
+      timed-forward (started at .args .spot) 1 _ (lit≤ tt) (c .read-clock .ensures .assigned .turn),
+    )
 
 returns-16 : tie.Need-returns-16
 unfolding decode
@@ -293,7 +325,11 @@ unfolding decode
 returns-17 c = combined (c .before .before .before) (c .before .before .match .keys17) refl (c .combine9 .ensures)
 
 returns-18 : tie.Need-returns-18
-returns-18 c = let at = c .before .before in (λ s labels m l t f. stays (held at s labels) (started at .args .context .deadline) (started at .args .spot .left) (Rest (word at)) (c .stopping2 .ensures) (record { word = f; within = started at .pre .0; op = uncommon (word at) (at .op-of .ensures) (c .before .match .rest) }), stopping-forward (started at .args .spot) (Rest (word at)) (c .stopping2 .ensures))
+returns-18 c =
+    let at = c .before .before in (
+      λ s labels m l t f. stays (held at s labels) (started at .args .context .deadline) (started at .args .spot .left) (Rest (word at)) (c .stopping2 .ensures) (record { word = f; within = started at .pre .0; op = uncommon (word at) (at .op-of .ensures) (c .before .match .rest) }),
+      stopping-forward (started at .args .spot) (Rest (word at)) (c .stopping2 .ensures),
+    )
 
 pub common-spec : {M : Type 1} → statement M
 common-spec =

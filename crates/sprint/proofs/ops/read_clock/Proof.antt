@@ -34,7 +34,20 @@ assign-requires : tie.Need-assign-requires
 assign-requires c κs = search needs
 
 returns : tie.Need-returns
-returns c = record { clock = c .before .before .wrapping-sub-u32 .result; short = omega arith; counted = c .before .before .wrapping-sub-u32 .ensures ∙ c .before .before .before .wrapping-add-u32 .ensures; assigned = rw (← c .before .before .before .before .before .before .before .before .a-of .ensures .0, ← c .before .before .before .before .before .before .before .restrictions .ensures, ← c .before .before .before .before .before .before .restrictions2 .ensures, ← c .before .before .before .before .may-go .ensures) (c .assign .ensures) }
+returns c =
+    let check = c .before .before .before .before in
+    record {
+      clock = c .before .before .wrapping-sub-u32 .result;
+      short = omega arith;
+      counted = c .before .before .wrapping-sub-u32 .ensures ∙ c .before .before .before .wrapping-add-u32 .ensures;
+      assigned =
+          rw (
+            ← check .before .before .before .before .a-of .ensures .0,
+            ← check .before .before .before .restrictions .ensures,
+            ← check .before .before .restrictions2 .ensures,
+            ← check .may-go .ensures,
+          ) (c .assign .ensures);
+    }
 
 pub read-clock-spec : {M : Type 1} → statement M
 read-clock-spec =
