@@ -6,6 +6,7 @@ mod names;
 use fire::MOST_WORDS;
 use fire::fire_whole;
 use intake::read_whole;
+use labels::Bits;
 use libc::STDERR_FILENO;
 use libc::STDOUT_FILENO;
 use names::Ending;
@@ -15,7 +16,7 @@ use names::read_name;
 // What the memory holds before the first file: numbers that no file has put there.
 const STRAY_WORD: u32 = 0xA5A5_A5A5;
 
-const STRAY_LABEL: u8 = 0xA5;
+const STRAY_LABEL: Bits = 0xA5;
 
 // More names than will ever come: the count shows that the loop ends.
 const MOST_NAMES: u64 = 0xFFFF_FFFF_FFFF_FFFF;
@@ -52,7 +53,7 @@ fn complain_of(name: &[u8]) {
 
 // Fires a file in the memory as the file before it left it. A file that can't be read whole isn't fired. Answers whether
 // standard output still takes what is written.
-fn fire_file(name: &[u8], words: &mut [u32; MOST_WORDS], labels: &mut [u8; MOST_WORDS]) -> bool {
+fn fire_file(name: &[u8], words: &mut [u32; MOST_WORDS], labels: &mut [Bits; MOST_WORDS]) -> bool {
     let file = os::open_read(name);
     if file < 0 {
         complain_of(name);
@@ -73,7 +74,7 @@ fn fire_file(name: &[u8], words: &mut [u32; MOST_WORDS], labels: &mut [u8; MOST_
 }
 
 // Fires the file that an argument names. One that is too long, or that would not stand on one line, names none.
-fn fire_argument(i: usize, words: &mut [u32; MOST_WORDS], labels: &mut [u8; MOST_WORDS]) -> bool {
+fn fire_argument(i: usize, words: &mut [u32; MOST_WORDS], labels: &mut [Bits; MOST_WORDS]) -> bool {
     let mut name = io::buffer();
     let length = os::arg(i, &mut name);
     if os::errno() != 0 {
@@ -88,7 +89,7 @@ fn fire_argument(i: usize, words: &mut [u32; MOST_WORDS], labels: &mut [u8; MOST
 }
 
 // Fires the files that the arguments name. Answers whether standard output took every listing.
-fn fire_arguments(words: &mut [u32; MOST_WORDS], labels: &mut [u8; MOST_WORDS]) -> bool {
+fn fire_arguments(words: &mut [u32; MOST_WORDS], labels: &mut [Bits; MOST_WORDS]) -> bool {
     let count = os::arg_count();
     let mut i = 1;
     while i < count {
@@ -111,7 +112,7 @@ enum Turn {
 }
 
 // Waits for a name on standard input and fires its file.
-fn fire_next(words: &mut [u32; MOST_WORDS], labels: &mut [u8; MOST_WORDS]) -> Turn {
+fn fire_next(words: &mut [u32; MOST_WORDS], labels: &mut [Bits; MOST_WORDS]) -> Turn {
     let mut name = io::buffer();
     let line = read_name(&mut name);
     let count = line.count;
@@ -137,7 +138,7 @@ fn fire_next(words: &mut [u32; MOST_WORDS], labels: &mut [u8; MOST_WORDS]) -> Tu
 }
 
 // Fires the files that standard input names, for as long as names come.
-fn fire_names(words: &mut [u32; MOST_WORDS], labels: &mut [u8; MOST_WORDS]) -> bool {
+fn fire_names(words: &mut [u32; MOST_WORDS], labels: &mut [Bits; MOST_WORDS]) -> bool {
     let mut left = MOST_NAMES;
     while 0 < left {
         match fire_next(words, labels) {
@@ -155,7 +156,7 @@ fn fire_names(words: &mut [u32; MOST_WORDS], labels: &mut [u8; MOST_WORDS]) -> b
 }
 
 // Fires what is named, in the memory of this one run.
-fn fire_all(words: &mut [u32; MOST_WORDS], labels: &mut [u8; MOST_WORDS]) -> bool {
+fn fire_all(words: &mut [u32; MOST_WORDS], labels: &mut [Bits; MOST_WORDS]) -> bool {
     if 1 < os::arg_count() {
         return fire_arguments(words, labels);
     }

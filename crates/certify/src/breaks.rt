@@ -2,6 +2,7 @@
 // within and whose timing label is outside.
 use crate::Certificate;
 use crate::WHOLE;
+use labels::Bits;
 use labels::Label;
 use model::Control;
 use model::Fixed;
@@ -21,14 +22,14 @@ const GATE: u8 = 2;
 const TIMING: u8 = 3;
 
 // Whether the label `other` flows to `label`.
-pub(in crate) fn is_within(label: u8, other: u8) -> bool
+pub(in crate) fn is_within(label: Bits, other: Bits) -> bool
     ensures { λ r. ⌜ r ≡ within label other ⌝ }
 {
     Label(other).flows_to(Label(label))
 }
 
 // Whether a gate leads within.
-pub(in crate) fn leads_within(label: u8, fixed: Fixed) -> bool
+pub(in crate) fn leads_within(label: Bits, fixed: Fixed) -> bool
     requires { ⌜ fixed .count ≤ 8 ⌝ }
     ensures { λ r. ⌜ r ≡ leadsWithin label fixed (fixed .count) ⌝ }
 {
@@ -47,7 +48,7 @@ pub(in crate) fn leads_within(label: u8, fixed: Fixed) -> bool
 }
 
 // The break that a state is, or none. `opened` says whether a gate leads within.
-pub(in crate) fn break_of(label: u8, opened: bool, control: Control) -> Certificate
+pub(in crate) fn break_of(label: Bits, opened: bool, control: Control) -> Certificate
     ensures { λ r. ⌜ certificateOf r ≡ breakWith label opened control ⌝ }
 {
     let pair = control.pair;

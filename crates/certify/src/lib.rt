@@ -6,6 +6,7 @@ use causes::Outcome;
 use engine::Pace;
 use engine::Task;
 use engine::advance;
+use labels::Bits;
 use loader::load;
 use machine::Machine;
 use model::Control;
@@ -62,7 +63,13 @@ const MOST_WORDS: usize = numbers::MOST_WORDS as usize;
 pub const OUTPUT: usize = 128;
 
 // The break of a step, or none: an attempt from this place, or the state after the step.
-fn first_break(label: u8, opened: bool, attempted: bool, place: u32, after: Control) -> Certificate
+fn first_break(
+    label: Bits,
+    opened: bool,
+    attempted: bool,
+    place: u32,
+    after: Control,
+) -> Certificate
     ensures { λ r. ⌜ certificateOf r ≡ firstWith label opened attempted place after ⌝ }
 {
     if attempted {
@@ -89,7 +96,7 @@ fn steps_left(limit: u32, control: Control) -> u32
 }
 
 // The first break of the run from a loaded machine on. The run goes on to its end behind it.
-fn watch(label: u8, machine: Machine, words: &mut [u32], marks: &[u8]) -> Certificate
+fn watch(label: Bits, machine: Machine, words: &mut [u32], marks: &[Bits]) -> Certificate
     requires { ⌜ Loaded (stateOf (recordOf machine) (lent (now words) (now marks))) ⌝ }
     ensures { λ r. ⌜ Watched label (stateOf (recordOf machine) (lent (now (words .entry)) (now (marks .entry)))) r (now (words .exit)) (now (marks .entry)) ⌝ }
 {
@@ -125,7 +132,7 @@ fn watch(label: u8, machine: Machine, words: &mut [u32], marks: &[u8]) -> Certif
 
 // Certifies a text at a label, in lent memory. That may hold anything: what lies below the text's size is set anew, and
 // is left as the run to the end leaves it.
-pub fn certify(label: u8, text: &[u8], words: &mut [u32], labels: &mut [u8]) -> Certified
+pub fn certify(label: Bits, text: &[u8], words: &mut [u32], labels: &mut [Bits]) -> Certified
     ensures { λ r. ⌜ certifyingOf r (now (words .exit)) (now (labels .exit)) ≡ certifying label (now (text .entry)) (lent (now (words .entry)) (now (labels .entry))) ⌝ }
 {
     let loaded = load(text, words, labels);
@@ -149,12 +156,12 @@ pub fn certify(label: u8, text: &[u8], words: &mut [u32], labels: &mut [u8]) -> 
 
 // The same in a memory of its own, all 0, with the line written that the program `certifying` prints for a text. Gives
 // how many bytes it has.
-pub fn certify_alone(label: u8, text: &[u8], out: &mut [u8; OUTPUT]) -> usize
+pub fn certify_alone(label: Bits, text: &[u8], out: &mut [u8; OUTPUT]) -> usize
     ensures { λ r. ⌜ record { bytes = r; output = now (out .exit) } ≡ certifyAlone label (now (text .entry)) (now (out .entry)) ⌝ }
     ensures { λ r. ⌜ (r ≤ length (now (out .exit))) × (r ≡ length (take r (now (out .exit)))) ⌝ }
 {
     let mut words = [0u32; MOST_WORDS];
-    let mut labels = [0u8; MOST_WORDS];
+    let mut labels: [Bits; MOST_WORDS] = [0; MOST_WORDS];
     let certified = certify(label, text, &mut words, &mut labels);
     let outcome = certified.outcome;
     let Outcome::Done = outcome else {

@@ -1,5 +1,6 @@
 // Attempts to release a register: what the next step tries, whether or not the register's own label allows it.
 use crate::breaks::is_within;
+use labels::Bits;
 use labels::LABEL_COUNT;
 use labels::Label;
 use model::Control;
@@ -27,7 +28,7 @@ pub(in crate) enum Found {
 }
 
 // What is fetched at the pc under the pc label p.
-pub(in crate) fn relabelling(size: u32, pc: u32, p: u8, words: &[u32], marks: &[u8]) -> Found
+pub(in crate) fn relabelling(size: u32, pc: u32, p: Bits, words: &[u32], marks: &[Bits]) -> Found
     requires { ⌜ (size ≤ length (now words)) × (size ≤ length (now marks)) ⌝ }
     ensures { λ r. ⌜ r ≡ relabellingAt size pc p (now (words .entry)) (now (marks .entry)) ⌝ }
 {
@@ -45,11 +46,11 @@ pub(in crate) fn relabelling(size: u32, pc: u32, p: u8, words: &[u32], marks: &[
 
 // Whether giving the label `value` to a register labelled `old`, where the value is labelled `source`, releases it under
 // the pc label p.
-fn tries_release(label: u8, p: u8, old: u8, source: u8, value: u32) -> bool
+fn tries_release(label: Bits, p: Bits, old: Bits, source: Bits, value: u32) -> bool
     ensures { λ r. ⌜ r ≡ triesWith label p old source value ⌝ }
 {
     if value < LABEL_COUNT {
-        let new = value as u8;
+        let new = value as Bits;
         return is_within(label, p)
             & !is_within(label, old)
             & is_within(label, new)
@@ -62,11 +63,11 @@ fn tries_release(label: u8, p: u8, old: u8, source: u8, value: u32) -> bool
 
 // Whether what was fetched tries so.
 pub(in crate) fn releases(
-    label: u8,
-    p: u8,
+    label: Bits,
+    p: Bits,
     found: Found,
     values: &[u32; REGISTER_COUNT],
-    labels: &[u8; REGISTER_COUNT],
+    labels: &[Bits; REGISTER_COUNT],
 ) -> bool
     ensures { λ r. ⌜ r ≡ releasesWith label p found (now (values .entry)) (now (labels .entry)) ⌝ }
 {

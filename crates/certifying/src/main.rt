@@ -6,6 +6,7 @@ use arguments::label_argument;
 use certify::OUTPUT;
 use certify::certify_alone;
 use intake::read_whole;
+use labels::Bits;
 use libc::STDERR_FILENO;
 use libc::STDIN_FILENO;
 use libc::STDOUT_FILENO;
@@ -24,7 +25,7 @@ fn read_label() -> Named {
 }
 
 // Certifies a text and writes what comes of it.
-fn reply(label: u8, text: &[u8]) {
+fn reply(label: Bits, text: &[u8]) {
     let mut output = [0u8; OUTPUT];
     let n = certify_alone(label, text, &mut output);
     if !io::write_all(STDOUT_FILENO, &output[..n]) {

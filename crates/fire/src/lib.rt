@@ -1,6 +1,7 @@
 // Firing a text: it is loaded into lent memory, run to its end, and its listing is written into lent output. A text that
 // is refused gets the line `X,number,line` instead. What follows a load is a function of its own, for images of every kind.
 use causes::Outcome;
+use labels::Bits;
 use loader::load;
 use machine::Machine;
 use model::numbers;
@@ -27,7 +28,7 @@ pub const OUTPUT: usize = 65536;
 
 // Fires a text and gives how many bytes of the output it has written. Output that is too short is left as it is, with 0
 // bytes. The memory may hold anything: what lies below the text's size is set anew, the rest is left.
-pub fn fire(text: &[u8], words: &mut [u32], labels: &mut [u8], out: &mut [u8]) -> usize
+pub fn fire(text: &[u8], words: &mut [u32], labels: &mut [Bits], out: &mut [u8]) -> usize
     ensures { λ r. ⌜ fired r (now (out .exit)) (now (words .exit)) (now (labels .exit)) ≡ fire (now (text .entry)) (lent (now (words .entry)) (now (labels .entry))) (now (out .entry)) ⌝ }
 {
     let loaded = load(text, words, labels);
@@ -43,7 +44,7 @@ pub fn fire_loaded(
     line: u64,
     machine: Machine,
     words: &mut [u32],
-    labels: &mut [u8],
+    labels: &mut [Bits],
     out: &mut [u8],
 ) -> usize
     ensures { λ r. ⌜ fired r (now (out .exit)) (now (words .exit)) (now (labels .exit)) ≡ inTurn (record { outcome = outcome; line = line; machine = recordOf machine; memory = lent (now (words .entry)) (now (labels .entry)) }) (now (out .entry)) ⌝ }
@@ -70,7 +71,7 @@ fn write_refusal(out: &mut [u8], number: u64, line: u64) -> usize
 pub fn fire_whole(
     text: &[u8],
     words: &mut [u32; MOST_WORDS],
-    labels: &mut [u8; MOST_WORDS],
+    labels: &mut [Bits; MOST_WORDS],
     out: &mut [u8; OUTPUT],
 ) -> usize
     ensures { λ r. ⌜ fired r (now (out .exit)) (now (words .exit)) (now (labels .exit)) ≡ fireWhole (now (text .entry)) (lent (now (words .entry)) (now (labels .entry))) (now (out .entry)) ⌝ }
@@ -85,6 +86,6 @@ pub fn fire_alone(text: &[u8], out: &mut [u8; OUTPUT]) -> usize
     ensures { λ r. ⌜ (r ≤ length (now (out .exit))) × (r ≡ length (take r (now (out .exit)))) ⌝ }
 {
     let mut words = [0u32; MOST_WORDS];
-    let mut labels = [0u8; MOST_WORDS];
+    let mut labels: [Bits; MOST_WORDS] = [0; MOST_WORDS];
     fire_whole(text, &mut words, &mut labels, out)
 }

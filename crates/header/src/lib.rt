@@ -2,6 +2,7 @@
 // refusal.
 use causes::Cause;
 use causes::Outcome;
+use labels::Bits;
 use machine::Machine;
 use model::Pair;
 use model::format::Line;
@@ -43,8 +44,8 @@ fn machine_of(header: Header) -> Machine
     ensures { λ r. ⌜ recordOf r ≡ machineOfHeader header ⌝ }
 {
     let pair = Pair {
-        pc: header.p as u8,
-        timing: header.t as u8,
+        pc: header.p as Bits,
+        timing: header.t as Bits,
     };
     let errorpc = header.errorpc as u32;
     let pc = header.pc as u32;

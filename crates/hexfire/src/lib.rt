@@ -4,6 +4,7 @@ use fire::MOST_WORDS;
 use fire::OUTPUT;
 use fire::fire_loaded;
 use hexloader::load_hex;
+use labels::Bits;
 ghost use Prim.Native.Nat.{_≤_};
 ghost use mathlib.Core.Path.{_≡_};
 ghost use lib.ListN.{length, take};
@@ -16,9 +17,9 @@ ghost use Rattle.fire.specs.Fired.{fired, replied};
 pub fn fire_hex(
     text: &[u8],
     hex: &[u8],
-    label: u8,
+    label: Bits,
     words: &mut [u32],
-    labels: &mut [u8],
+    labels: &mut [Bits],
     out: &mut [u8],
 ) -> usize
     ensures { λ r. ⌜ fired r (now (out .exit)) (now (words .exit)) (now (labels .exit)) ≡ fireHex (now (text .entry)) (now (hex .entry)) label (lent (now (words .entry)) (now (labels .entry))) (now (out .entry)) ⌝ }
@@ -31,11 +32,11 @@ pub fn fire_hex(
 
 // The same in a memory of its own, all 0, and into an output that has room for every reply: what the program `hexfiring`
 // prints for an image.
-pub fn fire_hex_alone(text: &[u8], hex: &[u8], label: u8, out: &mut [u8; OUTPUT]) -> usize
+pub fn fire_hex_alone(text: &[u8], hex: &[u8], label: Bits, out: &mut [u8; OUTPUT]) -> usize
     ensures { λ r. ⌜ replied r (now (out .exit)) ≡ fireHexAlone (now (text .entry)) (now (hex .entry)) label (now (out .entry)) ⌝ }
     ensures { λ r. ⌜ (r ≤ length (now (out .exit))) × (r ≡ length (take r (now (out .exit)))) ⌝ }
 {
     let mut words = [0u32; MOST_WORDS];
-    let mut labels = [0u8; MOST_WORDS];
+    let mut labels: [Bits; MOST_WORDS] = [0; MOST_WORDS];
     fire_hex(text, hex, label, &mut words, &mut labels, out)
 }

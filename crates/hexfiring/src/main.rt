@@ -6,6 +6,7 @@ use arguments::label_argument;
 use fire::OUTPUT;
 use hexfire::fire_hex_alone;
 use intake::read_whole;
+use labels::Bits;
 use libc::STDERR_FILENO;
 use libc::STDIN_FILENO;
 use libc::STDOUT_FILENO;
@@ -31,7 +32,7 @@ fn hex_space() -> [u8; HEX_SPACE]
 }
 
 // Fires an image and writes what comes of it.
-fn reply(label: u8, text: &[u8], hex: &[u8]) {
+fn reply(label: Bits, text: &[u8], hex: &[u8]) {
     let mut output = [0u8; OUTPUT];
     let n = fire_hex_alone(text, hex, label, &mut output);
     if !io::write_all(STDOUT_FILENO, &output[..n]) {
@@ -40,7 +41,7 @@ fn reply(label: u8, text: &[u8], hex: &[u8]) {
 }
 
 // Fires the HEX on standard input with this M text. A part of it isn't taken for the whole.
-fn fire_input(label: u8, text: &[u8]) {
+fn fire_input(label: Bits, text: &[u8]) {
     let mut space = hex_space();
     let input = read_whole(STDIN_FILENO, &mut space);
     if !input.whole {
@@ -57,7 +58,7 @@ fn fire_input(label: u8, text: &[u8]) {
 
 // Fires it with the M text of a file. A file that can't be opened can't be read, and a name that is too long comes as an empty
 // one, which no file has.
-fn fire_file(label: u8, name: &[u8]) {
+fn fire_file(label: Bits, name: &[u8]) {
     let file = os::open_read(name);
     let mut text = io::large_buffer();
     let input = read_whole(file, &mut text);

@@ -2,6 +2,7 @@
 // output.
 use causes::Cause;
 use causes::Outcome;
+use labels::Bits;
 use loader::load;
 use model::numbers;
 use printer::print_for;
@@ -44,11 +45,11 @@ fn refused(outcome: Outcome, value: u32) -> Viewed
 // The view of a text from a label at a tick. The memory may hold anything: what lies below the text's size is set anew, and
 // is left as it is at the tick, also where the output is too short.
 pub fn view(
-    label: u8,
+    label: Bits,
     tick: u64,
     text: &[u8],
     words: &mut [u32],
-    labels: &mut [u8],
+    labels: &mut [Bits],
     out: &mut [u8],
 ) -> Viewed
     ensures { λ r. ⌜ viewedOf r (now (out .exit)) (now (words .exit)) (now (labels .exit)) ≡ view label tick (now (text .entry)) (lent (now (words .entry)) (now (labels .entry))) (now (out .entry)) ⌝ }
@@ -76,12 +77,12 @@ pub fn view(
 
 // The same in a memory of its own, all 0, with the line written of a view that is refused: what the program `viewing`
 // prints for a text. Gives how many bytes it has.
-pub fn view_alone(label: u8, tick: u64, text: &[u8], out: &mut [u8; OUTPUT]) -> usize
+pub fn view_alone(label: Bits, tick: u64, text: &[u8], out: &mut [u8; OUTPUT]) -> usize
     ensures { λ r. ⌜ record { bytes = r; output = now (out .exit) } ≡ viewAlone label tick (now (text .entry)) (now (out .entry)) ⌝ }
     ensures { λ r. ⌜ (r ≤ length (now (out .exit))) × (r ≡ length (take r (now (out .exit)))) ⌝ }
 {
     let mut words = [0u32; MOST_WORDS];
-    let mut labels = [0u8; MOST_WORDS];
+    let mut labels: [Bits; MOST_WORDS] = [0; MOST_WORDS];
     let viewed = view(label, tick, text, &mut words, &mut labels, out);
     let outcome = viewed.outcome;
     let Outcome::Done = outcome else {

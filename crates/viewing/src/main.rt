@@ -5,6 +5,7 @@ use arguments::Named;
 use arguments::label_argument;
 use arguments::number_argument;
 use intake::read_whole;
+use labels::Bits;
 use libc::STDERR_FILENO;
 use libc::STDIN_FILENO;
 use libc::STDOUT_FILENO;
@@ -19,7 +20,7 @@ fn complain(what: &[u8]) {
 
 // What the two arguments ask for: a label and a tick, or nothing.
 enum Asked {
-    View(u8, u64),
+    View(Bits, u64),
     Nothing,
 }
 
@@ -37,7 +38,7 @@ fn read_arguments() -> Asked {
 }
 
 // Views a text and writes what comes of it.
-fn reply(label: u8, tick: u64, text: &[u8]) {
+fn reply(label: Bits, tick: u64, text: &[u8]) {
     let mut output = [0u8; OUTPUT];
     let n = view_alone(label, tick, text, &mut output);
     if !io::write_all(STDOUT_FILENO, &output[..n]) {
