@@ -34,7 +34,7 @@ ghost use Rattle.model.specs.Step.{fault, fetched, plan};
 ghost use Rattle.parts.specs.declared.stages.Reason.{Reason};
 ghost use Rattle.parts.specs.declared.stages.Reason.the-variants.{Rest};
 ghost use Rattle.parts.specs.Live.{controlOf};
-ghost use Rattle.parts.specs.Stages.{decisionOf, lateOf, planAt, planFor, Left, Applies};
+ghost use Rattle.parts.specs.Stages.{decisionOf, lateOf, planAt, planFor, HasNext, Applies};
 ghost use Rattle.decisions.specs.Decisions.{decided};
 ghost use Rattle.decisions.specs.Inner.Rows.{InTime, Decides, Limited};
 
@@ -174,7 +174,7 @@ pub fn decide(
     values: &[u32; REGISTER_COUNT],
     labels: &[Bits; REGISTER_COUNT],
 ) -> Decision
-    ensures { λ r. ⌜ ((words marks : List ℕ) → decisionOf r ≡ decided reason (stateFrom fixed (controlOf live) (now (values .entry)) (now (labels .entry)) words marks)) × (Left reason (live .pc) → Applies r live (fixed .limit)) ⌝ }
+    ensures { λ r. ⌜ ((words marks : List ℕ) → decisionOf r ≡ decided reason (stateFrom fixed (controlOf live) (now (values .entry)) (now (labels .entry)) words marks)) × (HasNext reason (live .pc) → Applies r live (fixed .limit)) ⌝ }
 {
     let decision = plan(reason, fixed, live, values, labels);
     in_limit(decision, live, fixed.limit)

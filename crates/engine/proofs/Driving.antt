@@ -35,7 +35,7 @@ use Rattle.parts.specs.declared.stages.Decision.{Decision}
 use Rattle.parts.specs.declared.stages.Decision.the-variants.{Spend, Stall, Close, Carry}
 use Rattle.parts.specs.Calls.{newestOf, nearer, deadlineOf}
 use Rattle.parts.specs.Live.{callOf, controlOf, Stacked, stacks, Lives}
-use Rattle.parts.specs.Stages.{isCommonOp, decisionOf, planFor, Left, Applies}
+use Rattle.parts.specs.Stages.{isCommonOp, decisionOf, planFor, HasNext, Applies}
 use Rattle.parts.proofs.Frames.{newest-is}
 use Rattle.sprint.specs.Skim.{isCommon, Skim, skim}
 use Rattle.sprint.specs.declared.Context.{Context}
@@ -290,7 +290,7 @@ remains-start Stride s h = refl
 -- What is promised of a decision for a reason to stop.
 pub record Decided (reason : Reason) (fixed : Fixed) (live : Live) (values labels : List ℕ) (r : Decision) : Type 0 where
   pub is : (words marks : List ℕ) → decisionOf r ≡ decided reason (stateFrom fixed (controlOf live) values labels words marks)
-  pub applies : Left reason (live .pc) → Applies r live (fixed .limit)
+  pub applies : HasNext reason (live .pc) → Applies r live (fixed .limit)
 
 -- With a tick left the hot loop paused for a reason.
 paused-stopped : (reason : Reason) (left deadline : ℕ) (s : State) → 0 < left → Paused reason left deadline s → Stopped reason deadline s
@@ -673,10 +673,10 @@ module _ {fixed : Fixed} {task : Task} {values₀ labels₀ words₀ marks : Lis
       -- ---- the step of what it stopped at
 
       -- Where it stopped at a word, there is a next pc.
-      next-there : Left (pause .reason) (paused .pc)
+      next-there : HasNext (pause .reason) (paused .pc)
       next-there = go (pause .reason) stopped
         where
-          go : (r : Reason) → Stopped r deadline there → Left r (paused .pc)
+          go : (r : Reason) → Stopped r deadline there → HasNext r (paused .pc)
           go Out s = tt
           go Late s = tt
           go Outside s = tt

@@ -83,13 +83,13 @@ planFor Failed s = model.fault s unknownOp
 planFor (Rest w) s = planAt w s
 
 -- Where it stopped at a word, there is a next pc.
-abbrev pub Left : Reason → ℕ → Type 0
-Left Out pc = Unit
-Left Late pc = Unit
-Left Outside pc = Unit
-Left Unreadable pc = Unit
-Left Failed pc = Unit
-Left (Rest w) pc = pc + 1 < 2 ^ 32
+abbrev pub HasNext : Reason → ℕ → Type 0
+HasNext Out pc = Unit
+HasNext Late pc = Unit
+HasNext Outside pc = Unit
+HasNext Unreadable pc = Unit
+HasNext Failed pc = Unit
+HasNext (Rest w) pc = pc + 1 < 2 ^ 32
 
 -- ---- what is known of a decision besides
 

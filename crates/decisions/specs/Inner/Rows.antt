@@ -15,7 +15,7 @@ use Rattle.parts.specs.declared.stages.Change.{Change}
 use Rattle.parts.specs.declared.stages.Decision.{Decision}
 use Rattle.parts.specs.declared.stages.Decision.the-variants.{Spend, Stall, Close, Carry}
 use Rattle.parts.specs.declared.stages.Reason.{Reason}
-use Rattle.parts.specs.Stages.{changeOf, decisionOf, Left, Fits, Applies}
+use Rattle.parts.specs.Stages.{changeOf, decisionOf, HasNext, Fits, Applies}
 use Rattle.decisions.specs.declared.rows.Rule.{Rule}
 use Rattle.decisions.specs.declared.rows.Rule.the-variants.{Raise, Relabel}
 
@@ -58,7 +58,7 @@ Suits (Carry ticks change) l = Fits change l (l .clock + ticks)
 pub record Decides (reason : Reason) (d : State → model.Decision) (fixed : Fixed) (live : Live) (values labels : List ℕ) (r : Decision) : Type 0 where
   pub is : (words marks : List ℕ) → decisionOf r ≡ d (stateFrom fixed (controlOf live) values labels words marks)
   pub ready : Ready r live
-  pub suits : Left reason (live .pc) → Suits r live
+  pub suits : HasNext reason (live .pc) → Suits r live
 
 -- A change in so many ticks, unless it finishes past the end tick of the upcall.
 pub record InTime (live : Live) (ticks : ℕ) (change : Change) (r : Decision) : Type 0 where
