@@ -1,8 +1,14 @@
 -- `decisions::calls::return_gate` meets its contract.
 -- Assumes nothing.
-use mathlib.Core.Path.{sym, _∙_}
+use Prim.Native.Nat.{ℕ}
+use mathlib.Core.Path.{_≡_, sym, _∙_}
+use mathlib.Core.List.{List}
 use borrow.Author.Needs.{needs}
-use Rattle.model.specs.Ops.{table, mayReturn}
+use Rattle.model.specs.declared.Fixed.{Fixed}
+use Rattle.model.specs.Record.{stateFrom}
+use Rattle.model.specs.Word.{gateReturn}
+use Rattle.model.specs.Ops.{closeGate, does, row, mayReturn, table}
+use Rattle.parts.specs.Live.{controlOf}
 use Rattle.parts.proofs.Frames.{newest-is}
 use Rattle.decisions.proofs.Calling.{kept-pair}
 use Rattle.decisions.proofs.calls.return_gate.Statement.{statement}
@@ -20,45 +26,23 @@ meet-requires c κs = search needs
 flows-to-requires : tie.Need-flows-to-requires
 flows-to-requires c κs = search needs
 
-returns : tie.Need-returns
+-- The row, where the newest call is a gate call: its check is what the code tests last.
+row-is : (c : tie.After-flows-to) (w : ℕ) (fixed : Fixed) (values labels words marks : List ℕ)
+    → table (stateFrom fixed (controlOf (c .before .before .before .before .before .before .before .before .args .live)) values labels words marks) w gateReturn
+    ≡ row (c .flows-to .result) (does closeGate) 4
 unfolding table mayReturn
-returns c w fixed values labels =
-    let at = c .before .before .before .before in
+row-is c w fixed values labels words marks =
+    let at = c .before .before .before in
     let gate = sym (at .before .is-gate .ensures) ∙ at .if1 .taken in
-    record {
-      is =
-          λ words marks.
-          rw (
-            newest-is _,
-            gate,
-            kept-pair _ gate,
-            ← c .before .before .before .join .ensures,
-            ← c .before .before .meet .ensures,
-            ← c .before .flows-to .ensures,
-            c .if2 .taken,
-          );
-      fits = λ p. tt;
-    }
+    rw (newest-is _, gate, kept-pair _ gate, ← c .before .before .join .ensures, ← c .before .meet .ensures, ← c .flows-to .ensures)
+
+returns : tie.Need-returns
+returns c w fixed values labels =
+    record { is = λ words marks. rw (row-is (c .before) w fixed values labels words marks, c .if2 .taken); fits = λ p. tt }
 
 returns-2 : tie.Need-returns-2
-unfolding table mayReturn
 returns-2 c w fixed values labels =
-    let at = c .before .before .before .before in
-    let gate = sym (at .before .is-gate .ensures) ∙ at .if1 .taken in
-    record {
-      is =
-          λ words marks.
-          rw (
-            newest-is _,
-            gate,
-            kept-pair _ gate,
-            ← c .before .before .before .join .ensures,
-            ← c .before .before .meet .ensures,
-            ← c .before .flows-to .ensures,
-            c .if2 .left,
-          );
-      fits = λ p. p;
-    }
+    record { is = λ words marks. rw (row-is (c .before) w fixed values labels words marks, c .if2 .left); fits = λ p. p }
 
 returns-3 : tie.Need-returns-3
 unfolding table mayReturn

@@ -1,10 +1,18 @@
 -- `decisions::calls::upcall` meets its contract.
 -- Assumes nothing.
-use mathlib.Core.Path.{sym, _∙_}
+use Prim.Native.Nat.{ℕ, _+_}
+use mathlib.Core.Path.{_≡_, sym, _∙_}
+use mathlib.Core.Bool.{false}
+use mathlib.Core.List.{List}
 use native.Mathlib.Omega.{arith}
+use denote.Ref.{now}
+use lib.ListN.{getD}
 use borrow.Author.Needs.{needs}
-use Rattle.model.specs.Ops.{table, mayUpcall, newPairAllowed}
-use Rattle.model.specs.Record.{valueAt, labelAt}
+use Rattle.model.specs.declared.Fixed.{Fixed}
+use Rattle.model.specs.Record.{stateFrom, valueAt, labelAt, isUpcall}
+use Rattle.model.specs.Word.{upcall}
+use Rattle.model.specs.Ops.{openUpcall, does, row, newPairAllowed, mayUpcall, table}
+use Rattle.parts.specs.Live.{callOf, controlOf}
 use Rattle.decisions.proofs.Calling.{in-upcall, pair-below}
 use Rattle.decisions.proofs.calls.upcall.Statement.{statement}
 use Rattle.decisions.proofs.calls.upcall.Tie as tie
@@ -89,64 +97,48 @@ mul-t39 c = search needs
 element-copy-out-t42 : tie.Need-element-copy-out-t42
 element-copy-out-t42 c = search needs
 
-returns-2 : tie.Need-returns-2
+-- The newest call is no upcall.
+no-upcall : (c : tie.After-may-upcall) → isUpcall (callOf (c .before .before .before .before .before .before .before .before .before .before .before .before .before .before .before .before .before .before .args .live .newest)) ≡ false
+no-upcall c = let out = c .before .before .before .before .before .before .before .before .before in sym (out .before .is-upcall .ensures) ∙ out .if1 .left
+
+-- The row then, where the values are labels of a valid pair and may be read: its check is what the code tests last.
+row-is : (c : tie.After-may-upcall) (fixed : Fixed) (words marks : List ℕ)
+    → let args = c .before .before .before .before .before .before .before .before .before .before .before .before .before .before .before .before .before .before .args in
+    let fields = c .before .before .before .before .before .before .before .before .before .before .before .before .before in
+    table (stateFrom fixed (controlOf (args .live)) (now (args .values)) (now (args .labels)) words marks) (args .w) upcall
+    ≡ row (c .may-upcall .result)
+    (does
+    (openUpcall (getD (now (args .values)) (fields .d-of .result) 0)
+    (record { pc = c .before .before .before .before .label-of .result; timing = c .before .before .before .label-of2 .result })
+    (args .live .clock + 2 + getD (now (args .values)) (fields .before .before .before .a-of .result) 0))) 2
 unfolding table mayUpcall newPairAllowed valueAt labelAt
+row-is c fixed words marks =
+    let at = c .before .before .before .before .before in
+    let fields = c .before .before .before .before .before .before .before .before .before .before .before .before .before in
+    rw (
+      in-upcall _,
+      no-upcall c,
+      ← fields .before .before .before .a-of .ensures .0,
+      ← fields .before .before .b-of .ensures .0,
+      ← fields .before .c-of .ensures .0,
+      ← fields .d-of .ensures .0,
+      ← at .before .new-pair-allowed .ensures,
+      at .if2 .taken,
+      ← c .before .before .before .before .label-of .ensures,
+      ← c .before .before .before .label-of2 .ensures,
+      ← c .may-upcall .ensures,
+    )
+
+returns-2 : tie.Need-returns-2
 returns-2 c fixed =
     let tried = c .before .before .before .before .before in
-    let at = tried .before .before .before .before .before in
-    let new = at .before in
-    let out = new .before .before .before in
-    let fields = out .before .before .before .before in
-    let no-upcall = sym (out .before .is-upcall .ensures) ∙ out .if1 .left in
     record {
-      is =
-          λ words marks.
-          rw (
-            in-upcall _,
-            no-upcall,
-            ← fields .before .before .before .a-of .ensures .0,
-            ← fields .before .before .b-of .ensures .0,
-            ← fields .before .c-of .ensures .0,
-            ← fields .d-of .ensures .0,
-            ← new .new-pair-allowed .ensures,
-            at .if2 .taken,
-            ← tried .before .before .before .before .label-of .ensures,
-            ← tried .before .before .before .label-of2 .ensures,
-            ← tried .may-upcall .ensures,
-            c .before .before .before .before .if3 .taken,
-            c .before .wide .ensures .0,
-          );
-      fits = λ p. (p, no-upcall, omega arith);
+      is = λ words marks. rw (row-is tried fixed words marks, c .before .before .before .before .if3 .taken, c .before .wide .ensures .0);
+      fits = λ p. (p, no-upcall tried, omega arith);
     }
 
 returns-3 : tie.Need-returns-3
-unfolding table mayUpcall newPairAllowed valueAt labelAt
-returns-3 c fixed =
-    let tried = c .before in
-    let at = tried .before .before .before .before .before in
-    let new = at .before in
-    let out = new .before .before .before in
-    let fields = out .before .before .before .before in
-    let no-upcall = sym (out .before .is-upcall .ensures) ∙ out .if1 .left in
-    record {
-      is =
-          λ words marks.
-          rw (
-            in-upcall _,
-            no-upcall,
-            ← fields .before .before .before .a-of .ensures .0,
-            ← fields .before .before .b-of .ensures .0,
-            ← fields .before .c-of .ensures .0,
-            ← fields .d-of .ensures .0,
-            ← new .new-pair-allowed .ensures,
-            at .if2 .taken,
-            ← tried .before .before .before .before .label-of .ensures,
-            ← tried .before .before .before .label-of2 .ensures,
-            ← tried .may-upcall .ensures,
-            c .if3 .left,
-          );
-      fits = λ p. p;
-    }
+returns-3 c fixed = record { is = λ words marks. rw (row-is (c .before) fixed words marks, c .if3 .left); fits = λ p. p }
 
 returns-4 : tie.Need-returns-4
 unfolding table mayUpcall newPairAllowed valueAt labelAt

@@ -1,8 +1,16 @@
 -- `decisions::rows::set_pair` meets its contract.
 -- Assumes nothing.
+use Prim.Native.Nat.{ℕ}
+use mathlib.Core.Path.{_≡_}
+use mathlib.Core.Bool.{_&&_}
+use mathlib.Core.List.{List}
+use denote.Ref.{now}
 use borrow.Author.Needs.{needs}
-use Rattle.model.specs.Ops.{table, newPairAllowed}
-use Rattle.model.specs.Record.{valueAt, labelAt}
+use Rattle.model.specs.declared.Fixed.{Fixed}
+use Rattle.model.specs.Record.{stateFrom, valueAt, labelAt}
+use Rattle.model.specs.Word.{setPair}
+use Rattle.model.specs.Ops.{enter, does, row, newPairAllowed, table}
+use Rattle.parts.specs.Live.{controlOf}
 use Rattle.decisions.proofs.Calling.{pair-below}
 use Rattle.decisions.proofs.rows.set_pair.Statement.{statement}
 use Rattle.decisions.proofs.rows.set_pair.Tie as tie
@@ -46,49 +54,32 @@ flows-to-requires c κs = search needs
 flows-to-requires-2 : tie.Need-flows-to-requires-2
 flows-to-requires-2 c κs = search needs
 
-returns : tie.Need-returns
+-- The row, where the values are labels of a valid pair and may be read: its check is what the code tests last.
+row-is : (c : tie.After-flows-to2) (fixed : Fixed) (words marks : List ℕ)
+    → let args = c .before .before .before .before .before .before .before .before .before .before .before .before .before .args in
+    table (stateFrom fixed (controlOf (args .live)) (now (args .values)) (now (args .labels)) words marks) (args .w) setPair
+    ≡ row (c .before .flows-to .result && c .flows-to2 .result)
+    (does (enter (record { pc = c .before .before .before .label-of .result; timing = c .before .before .label-of2 .result }))) 2
 unfolding table newPairAllowed valueAt labelAt
-returns c fixed =
-    let at = c .before .before .before .before .before in
+row-is c fixed words marks =
+    let at = c .before .before .before .before in
     let fields = at .before .before .before .before .before .before in
-    record {
-      is =
-          λ words marks.
-          rw (
-            ← fields .before .b-of .ensures .0,
-            ← fields .c-of .ensures .0,
-            ← at .before .new-pair-allowed .ensures,
-            at .if1 .taken,
-            ← c .before .before .before .before .label-of .ensures,
-            ← c .before .before .before .label-of2 .ensures,
-            ← c .before .before .flows-to .ensures,
-            ← c .before .flows-to2 .ensures,
-            c .if2 .taken,
-          );
-      fits = λ p. p;
-    }
+    rw (
+      ← fields .before .b-of .ensures .0,
+      ← fields .c-of .ensures .0,
+      ← at .before .new-pair-allowed .ensures,
+      at .if1 .taken,
+      ← c .before .before .before .label-of .ensures,
+      ← c .before .before .label-of2 .ensures,
+      ← c .before .flows-to .ensures,
+      ← c .flows-to2 .ensures,
+    )
+
+returns : tie.Need-returns
+returns c fixed = record { is = λ words marks. rw (row-is (c .before) fixed words marks, c .if2 .taken); fits = λ p. p }
 
 returns-2 : tie.Need-returns-2
-unfolding table newPairAllowed valueAt labelAt
-returns-2 c fixed =
-    let at = c .before .before .before .before .before in
-    let fields = at .before .before .before .before .before .before in
-    record {
-      is =
-          λ words marks.
-          rw (
-            ← fields .before .b-of .ensures .0,
-            ← fields .c-of .ensures .0,
-            ← at .before .new-pair-allowed .ensures,
-            at .if1 .taken,
-            ← c .before .before .before .before .label-of .ensures,
-            ← c .before .before .before .label-of2 .ensures,
-            ← c .before .before .flows-to .ensures,
-            ← c .before .flows-to2 .ensures,
-            c .if2 .left,
-          );
-      fits = λ p. p;
-    }
+returns-2 c fixed = record { is = λ words marks. rw (row-is (c .before) fixed words marks, c .if2 .left); fits = λ p. p }
 
 returns-3 : tie.Need-returns-3
 unfolding table newPairAllowed valueAt labelAt
