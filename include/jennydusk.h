@@ -11,7 +11,7 @@
 #include <stddef.h>
 #include <stdint.h>
 
-#define JENNYDUSK_VERSION "4.0.0"
+#define JENNYDUSK_VERSION "4.0.1"
 
 #ifdef __cplusplus
 extern "C" {
