@@ -1,18 +1,19 @@
 // Certificates for programs in other languages: a text is certified at a label, and the certificate goes to a buffer of
 // 64-bit words that the caller lends.
-use crate::SHORT_BUFFER;
 use crate::counted;
-use crate::is_short;
 use causes::Outcome;
 use certify::Certificate;
 use certify::certify;
 use labels::Bits;
+use record_calls::SHORT_BUFFER;
+use record_calls::is_short;
 ghost use Prim.Native.Nat.{_≤_};
 ghost use mathlib.Core.Path.{_≡_};
 ghost use lib.ListN.{length};
 ghost use Rattle.model.specs.Record.{lent};
 ghost use Rattle.certify.specs.Certified.{certificateOf};
-ghost use Rattle.jennydusk.specs.Calls.{left, kept, certificateSpan, holdingCertificate, certifyCall};
+ghost use Rattle.record_calls.specs.RecordCalls.{left, kept};
+ghost use Rattle.jennydusk.specs.Calls.{certificateSpan, holdingCertificate, certifyCall};
 
 // How many words a certificate takes, and where each stands.
 const CERTIFICATE_SPAN: usize = 3;

@@ -2,19 +2,19 @@
 // a buffer of 64-bit words, as the crates encoder and decoder have it. Nothing is kept between calls. The module
 // load_hex_call has the load from HEX, print_calls listings, view_call views, certify_call certificates, label_calls the
 // label rules.
-use causes::Cause;
-use causes::Outcome;
-use decoder::Found;
 use labels::Bits;
 use loader::load;
-use machine::Machine;
 use model::Request;
+use record_calls::RECORD_SPAN;
+use record_calls::SHORT_BUFFER;
+use record_calls::advanced;
+use record_calls::is_short;
+use record_calls::keep;
 ghost use Prim.Native.Nat.{_≤_, _^_};
 ghost use mathlib.Core.Path.{_≡_};
 ghost use Rattle.model.specs.Record.{lent};
-ghost use Rattle.model.specs.Answer.{answerOf};
-ghost use Rattle.machine.specs.Answered.{recordOf};
-ghost use Rattle.jennydusk.specs.Calls.{isShort, noRecord, left, keptRecord, counted, recordCall, loadCall, stepCall, runCall, runToCall};
+ghost use Rattle.record_calls.specs.RecordCalls.{left};
+ghost use Rattle.jennydusk.specs.Calls.{counted, loadCall, stepCall, runCall, runToCall};
 
 mod certify_call;
 mod label_calls;
@@ -22,37 +22,8 @@ mod load_hex_call;
 mod print_calls;
 mod view_call;
 
-// How many words a record takes.
-const RECORD_SPAN: usize = encoder::SPAN;
-
-// The answer where a buffer is shorter than the record or the certificate that it is lent for.
-const SHORT_BUFFER: u64 = 255;
-
 // A number is below this one; a line or a length stands above it.
 const NUMBERS: u64 = 256;
-
-// Whether a buffer is shorter than so many words. Each call tries this before everything else.
-pub(in crate) fn is_short(buffer: &[u64], least: usize) -> bool
-    ensures { λ r. ⌜ r ≡ isShort least (now (buffer .entry)) ⌝ }
-{
-    buffer.len() < least
-}
-
-// The answer where the buffer holds no record: that of a record that is not well-formed.
-pub(in crate) fn no_record() -> u64
-    ensures { λ r. ⌜ r ≡ noRecord ⌝ }
-{
-    Outcome::Refused(Cause::IllFormed).number() as u64
-}
-
-// Writes the record, unless the call with this outcome was refused.
-pub(in crate) fn keep(outcome: Outcome, machine: Machine, record: &mut [u64])
-    ensures { λ r. ⌜ now («record» .exit) ≡ keptRecord outcome (recordOf machine) (now («record» .entry)) ⌝ }
-{
-    if let Outcome::Done = outcome {
-        encoder::write(machine, record);
-    }
-}
 
 // A number and a count in one answer.
 pub(in crate) fn counted(number: u64, count: u64) -> u64
@@ -82,26 +53,6 @@ pub extern "C" fn jennydusk_load(
     let line = loaded.line as u64;
     keep(outcome, machine, record);
     counted(number, line)
-}
-
-// One step of the record in the buffer, its run or its run to a tick: what the three calls below share.
-fn advanced(request: Request, record: &mut [u64], words: &mut [u32], labels: &mut [Bits]) -> u64
-    ensures { λ r. ⌜ left r (now («record» .exit)) (now (words .exit)) (now (labels .exit)) ≡ recordCall (answerOf request) (now («record» .entry)) (lent (now (words .entry)) (now (labels .entry))) ⌝ }
-{
-    if is_short(record, RECORD_SPAN) {
-        return SHORT_BUFFER;
-    }
-    let reading = decoder::read(record);
-    let found = reading.found;
-    if let Found::Nothing = found {
-        return no_record();
-    }
-    let machine = reading.machine;
-    let answer = machine.answer(request, words, labels);
-    let outcome = answer.outcome;
-    let next = answer.machine;
-    keep(outcome, next, record);
-    outcome.number() as u64
 }
 
 // One step of the record.

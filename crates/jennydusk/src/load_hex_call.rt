@@ -1,14 +1,15 @@
 // Loading from HEX for programs in other languages: an M text of one line with a HEX text and a label. The line of a refusal
 // goes to a word that the caller lends, since a HEX text may have more lines than fit an answer beside its number.
-use crate::RECORD_SPAN;
-use crate::SHORT_BUFFER;
-use crate::is_short;
-use crate::keep;
 use hexloader::load_hex;
 use labels::Bits;
+use record_calls::RECORD_SPAN;
+use record_calls::SHORT_BUFFER;
+use record_calls::is_short;
+use record_calls::keep;
 ghost use mathlib.Core.Path.{_≡_};
 ghost use Rattle.model.specs.Record.{lent};
-ghost use Rattle.jennydusk.specs.Calls.{left, loadHexCall};
+ghost use Rattle.record_calls.specs.RecordCalls.{left};
+ghost use Rattle.jennydusk.specs.Calls.{loadHexCall};
 
 // Loads an M text with a HEX text, whose words get this label: the record goes to its buffer, and the memory to words and
 // labels.

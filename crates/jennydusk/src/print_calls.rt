@@ -1,13 +1,13 @@
 // Listings for programs in other languages: of the record in a buffer and its memory, for one label or for all.
-use crate::RECORD_SPAN;
-use crate::SHORT_BUFFER;
 use crate::counted;
-use crate::is_short;
-use crate::no_record;
 use decoder::Found;
 use labels::Bits;
 use labels::Label;
 use printer::print_for;
+use record_calls::RECORD_SPAN;
+use record_calls::SHORT_BUFFER;
+use record_calls::is_short;
+use record_calls::no_record;
 ghost use mathlib.Core.Path.{_≡_};
 ghost use Rattle.model.specs.Record.{lent};
 ghost use Rattle.jennydusk.specs.Calls.{shown, printForCall, printCall};

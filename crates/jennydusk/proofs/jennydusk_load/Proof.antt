@@ -4,8 +4,10 @@ use mathlib.Core.Path.{refl}
 use borrow.Author.Needs.{needs}
 use Rattle.model.specs.Record.{lent}
 use Rattle.encoder.specs.Places.{span}
-use Rattle.jennydusk.specs.Calls.{untouched, loadCall}
-use Rattle.jennydusk.proofs.Laws.{when-short, when-long, was-loaded}
+use Rattle.record_calls.specs.RecordCalls.{untouched}
+use Rattle.record_calls.proofs.Laws.{when-short, when-long}
+use Rattle.jennydusk.specs.Calls.{loadCall}
+use Rattle.jennydusk.proofs.Laws.{was-loaded}
 use Rattle.jennydusk.proofs.jennydusk_load.Statement.{statement}
 use Rattle.jennydusk.proofs.jennydusk_load.Tie as tie
 

@@ -4,8 +4,10 @@
 use mathlib.Core.Path.{refl}
 use borrow.Author.Needs.{needs}
 use Rattle.model.specs.Record.{lent}
-use Rattle.jennydusk.specs.Calls.{untouched, certificateSpan, certifyCall}
-use Rattle.jennydusk.proofs.Laws.{when-short, when-long, is-long, was-certified}
+use Rattle.record_calls.specs.RecordCalls.{untouched}
+use Rattle.record_calls.proofs.Laws.{when-short, when-long, is-long}
+use Rattle.jennydusk.specs.Calls.{certificateSpan, certifyCall}
+use Rattle.jennydusk.proofs.Laws.{was-certified}
 use Rattle.jennydusk.proofs.certify_call.jennydusk_certify.Statement.{statement}
 use Rattle.jennydusk.proofs.certify_call.jennydusk_certify.Tie as tie
 

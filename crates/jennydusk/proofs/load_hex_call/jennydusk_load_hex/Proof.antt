@@ -5,8 +5,9 @@ use mathlib.Core.Path.{refl}
 use borrow.Author.Needs.{needs}
 use Rattle.model.specs.Record.{lent}
 use Rattle.encoder.specs.Places.{span}
+use Rattle.record_calls.proofs.Laws.{when-short, when-long}
 use Rattle.jennydusk.specs.Calls.{untouchedLine, loadHexCall}
-use Rattle.jennydusk.proofs.Laws.{when-short, when-long, was-loaded-hex}
+use Rattle.jennydusk.proofs.Laws.{was-loaded-hex}
 use Rattle.jennydusk.proofs.load_hex_call.jennydusk_load_hex.Statement.{statement}
 use Rattle.jennydusk.proofs.load_hex_call.jennydusk_load_hex.Tie as tie
 

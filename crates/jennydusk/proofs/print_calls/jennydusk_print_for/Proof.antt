@@ -9,8 +9,9 @@ use Rattle.machine.specs.Answered.{recordOf}
 use Rattle.decoder.specs.Held.{machineIn}
 use Rattle.decoder.specs.Reading as reading
 use Rattle.encoder.specs.Places.{span}
+use Rattle.record_calls.proofs.Laws.{when-short, when-long}
 use Rattle.jennydusk.specs.Calls.{unwritten, printForCall}
-use Rattle.jennydusk.proofs.Laws.{when-short, when-long, small-length, not-printed, was-printed}
+use Rattle.jennydusk.proofs.Laws.{small-length, not-printed, was-printed}
 use Rattle.jennydusk.proofs.print_calls.jennydusk_print_for.Statement.{statement}
 use Rattle.jennydusk.proofs.print_calls.jennydusk_print_for.Tie as tie
 

@@ -1,10 +1,10 @@
--- `jennydusk::keep` meets its contract. Only where the call was carried out is the record written.
+-- `record_calls::keep` meets its contract. Only where the call was carried out is the record written.
 -- Assumes nothing.
 use mathlib.Core.Path.{ap}
 use borrow.Author.Needs.{needs}
 use Rattle.encoder.specs.Writing.{Written}
-use Rattle.jennydusk.proofs.keep.Statement.{statement}
-use Rattle.jennydusk.proofs.keep.Tie as tie
+use Rattle.record_calls.proofs.keep.Statement.{statement}
+use Rattle.record_calls.proofs.keep.Tie as tie
 
 enum-told : tie.Need-enum-told
 enum-told c = search needs

@@ -1,4 +1,4 @@
--- `jennydusk::advanced` meets its contract. The first test is the definition's; then the answer of step or run is handed on.
+-- `record_calls::advanced` meets its contract. The first test is the definition's; then the answer of step or run is handed on.
 -- Assumes nothing.
 use borrow.Author.Needs.{needs}
 use Rattle.model.specs.Record.{lent}
@@ -6,10 +6,10 @@ use Rattle.model.specs.Answer.{answerOf}
 use Rattle.decoder.specs.Held.{machineIn}
 use Rattle.decoder.specs.Reading as reading
 use Rattle.encoder.specs.Places.{span}
-use Rattle.jennydusk.specs.Calls.{untouched, recordCall}
-use Rattle.jennydusk.proofs.Laws.{when-short, when-long, not-called, was-called}
-use Rattle.jennydusk.proofs.advanced.Statement.{statement}
-use Rattle.jennydusk.proofs.advanced.Tie as tie
+use Rattle.record_calls.specs.RecordCalls.{untouched, recordCall}
+use Rattle.record_calls.proofs.Laws.{when-short, when-long, not-called, was-called}
+use Rattle.record_calls.proofs.advanced.Statement.{statement}
+use Rattle.record_calls.proofs.advanced.Tie as tie
 
 is-short-requires : tie.Need-is-short-requires
 is-short-requires c κs = search needs

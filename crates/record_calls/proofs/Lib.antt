@@ -1,0 +1,2 @@
+-- Laws that proofs of calls cite, here and above.
+pub mod Laws
