@@ -8,7 +8,7 @@ use engine::Task;
 use engine::advance;
 use labels::Bits;
 use loader::load;
-use machine::Machine;
+use machine_record::Machine;
 use model::Control;
 use model::numbers;
 use release::has_time;
@@ -20,7 +20,7 @@ ghost use mathlib.Core.Path.{_≡_};
 ghost use lib.ListN.{length, take};
 ghost use Rattle.model.specs.Record.{stateOf, lent};
 ghost use Rattle.model.specs.Certificate.{certifying, certifyAlone};
-ghost use Rattle.machine.specs.Answered.{recordOf};
+ghost use Rattle.machine_record.specs.Struct.{recordOf};
 ghost use Rattle.certify.specs.Certified.{certificateOf, certifyingOf};
 ghost use Rattle.certify.specs.Inner.Watch.{firstWith, stepsLeft, Loaded, Watched};
 

@@ -6,8 +6,8 @@ use mathlib.Core.Bool.{Bool, true, false}
 use mathlib.Core.List.{List, append-nil}
 use lib.ListN.{replicate}
 use Rattle.model.specs.Load.{noMachine}
-use Rattle.machine.specs.declared.Machine as struct
-use Rattle.machine.specs.Answered.{recordOf}
+use Rattle.machine_record.specs.declared.Machine as struct
+use Rattle.machine_record.specs.Struct.{recordOf}
 use Rattle.encoder.specs.Places.{span}
 use Rattle.encoder.specs.Layout.{wordsOf}
 use Rattle.encoder.specs.Writing.{Written, write, writtenOf}

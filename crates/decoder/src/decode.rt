@@ -2,7 +2,7 @@
 use encoder::places;
 use encoder::places::MOST_GATES;
 use labels::Bits;
-use machine::Machine;
+use machine_record::Machine;
 use model::Call;
 use model::CallGate;
 use model::Control;
@@ -13,7 +13,7 @@ use model::numbers::VALUE_COUNT;
 ghost use mathlib.Core.Path.{_≡_};
 ghost use Prim.Native.Nat.{_<_};
 ghost use Rattle.encoder.specs.Places.{span};
-ghost use Rattle.machine.specs.Answered.{recordOf};
+ghost use Rattle.machine_record.specs.Struct.{recordOf};
 ghost use Rattle.decoder.specs.Held.{wordAt, low32, low8, pairFrom, callFrom, callIn, gateIn, fixedIn, controlIn, registersIn, recordIn};
 
 // Bytes are below this number.

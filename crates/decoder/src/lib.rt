@@ -2,7 +2,7 @@
 // buffers hold one.
 use decode::machine_in;
 use encoder::SPAN;
-use machine::Machine;
+use machine_record::Machine;
 use model::Pair;
 ghost use mathlib.Core.Path.{_≡_};
 ghost use Rattle.decoder.specs.Held.{begins};

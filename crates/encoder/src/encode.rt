@@ -2,7 +2,7 @@
 use crate::places;
 use crate::places::MOST_GATES;
 use labels::Bits;
-use machine::Machine;
+use machine_record::Machine;
 use model::Call;
 use model::CallGate;
 use model::Control;
@@ -14,7 +14,7 @@ ghost use Prim.Native.Nat.{_<_};
 ghost use lib.ListN.{length, set};
 ghost use lib.Seq.{sets};
 ghost use Rattle.model.specs.Numbers.{mostGates};
-ghost use Rattle.machine.specs.Answered.{recordOf};
+ghost use Rattle.machine_record.specs.Struct.{recordOf};
 ghost use Rattle.encoder.specs.Layout.{keptWords, callWords, gateWords, gatesWords, fixedWords, controlWords, wordsOf};
 ghost use Rattle.encoder.specs.Places.{span, size, firstGate, pc, firstValue, firstLabel};
 

@@ -1,9 +1,9 @@
 // A machine record written into a lent buffer of 64-bit words, one number a word. specs/Places.antt says where.
 use encode::put_machine;
-use machine::Machine;
+use machine_record::Machine;
 pub use places::SPAN;
 ghost use mathlib.Core.Path.{_≡_};
-ghost use Rattle.machine.specs.Answered.{recordOf};
+ghost use Rattle.machine_record.specs.Struct.{recordOf};
 ghost use Rattle.encoder.specs.Writing.{writtenOf, write as Writing·write};
 
 mod encode;

@@ -3,7 +3,8 @@
 use causes::Outcome;
 use labels::Bits;
 use loader::load;
-use machine::Machine;
+use machine::run;
+use machine_record::Machine;
 use model::numbers;
 use printer::print;
 use writer::write_line;
@@ -13,7 +14,7 @@ ghost use lib.ListN.{length, take};
 ghost use Rattle.model.specs.Record.{lent};
 ghost use Rattle.model.specs.Program.{fire, fireWhole, fireAlone};
 ghost use Rattle.writer.specs.Writing.{answer};
-ghost use Rattle.machine.specs.Answered.{recordOf};
+ghost use Rattle.machine_record.specs.Struct.{recordOf};
 ghost use Rattle.fire.specs.Fired.{fired, replied};
 ghost use Rattle.fire.specs.InTurn.{refusing, inTurn};
 
@@ -52,7 +53,7 @@ pub fn fire_loaded(
     let Outcome::Done = outcome else {
         return write_refusal(out, outcome.number() as u64, line);
     };
-    let answer = machine.run(words, labels);
+    let answer = run(machine, words, labels);
     let last = answer.machine;
     let printed = print(last, words, labels, out);
     printed.bytes

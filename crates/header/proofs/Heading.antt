@@ -20,7 +20,7 @@ use Rattle.model.specs.declared.judging.Header.{Header}
 use Rattle.model.specs.Record.{Bank, Machine, lent}
 use Rattle.model.specs.Load.{machineOfHeader, headerInRange, headerTests, Verdict, refuse, accept, tried, judgeM, judgeFirst, judgeHeader, Loading}
 use Rattle.model.proofs.Truth.{clash}
-use Rattle.machine.specs.Answered.{recordOf}
+use Rattle.machine_record.specs.Struct.{recordOf}
 use Rattle.header.specs.declared.Loaded.{Loaded}
 use Rattle.header.specs.Loading.{loadingOf, IsRefusal, headed}
 

@@ -7,7 +7,7 @@ use Rattle.causes.specs.declared.Cause.{Cause}
 use Rattle.causes.specs.declared.Outcome.the-variants.{Done, Refused}
 use Rattle.model.specs.Record.{Bank, Machine, lent}
 use Rattle.model.specs.Load.{Verdict, refuse, accept, Loading, noMachine, refusal}
-use Rattle.machine.specs.Answered.{recordOf}
+use Rattle.machine_record.specs.Struct.{recordOf}
 use Rattle.header.specs.declared.Loaded.{Loaded}
 
 -- The answer of load: outcome, line, record, and the lent memory at exit.

@@ -3,7 +3,7 @@
 use causes::Cause;
 use causes::Outcome;
 use labels::Bits;
-use machine::Machine;
+use machine_record::Machine;
 use model::Pair;
 use model::format::Line;
 use model::judging::Header;
@@ -17,7 +17,7 @@ ghost use lib.ListN.{length};
 ghost use Rattle.model.specs.Record.{lent};
 ghost use Rattle.causes.specs.declared.Outcome.the-variants.{Refused};
 ghost use Rattle.model.specs.Load.{machineOfHeader, headerInRange, judgeHeader, noMachine};
-ghost use Rattle.machine.specs.Answered.{recordOf};
+ghost use Rattle.machine_record.specs.Struct.{recordOf};
 ghost use Rattle.header.specs.Loading.{loadingOf, headed};
 
 // The outcome, the refusal's line or 0, and the record: beside a refusal stands one of size 0.

@@ -20,7 +20,7 @@ use Rattle.model.specs.Text.{readLine}
 use Rattle.model.specs.Load.{Verdict, refuse, accept, _andThen_, judgeHeader, Loading}
 use Rattle.model.specs.HexLoad.{judgeAlone, noBytes, wordAt, wordLabel, firsts, placed, settleHex, loadHex}
 use Rattle.model.proofs.HexLoad.{alone-accepts}
-use Rattle.machine.specs.Answered.{recordOf}
+use Rattle.machine_record.specs.Struct.{recordOf}
 use Rattle.header.specs.Loading.{headed}
 use Rattle.header.proofs.Heading.{headed-accepts, headed-refuses}
 use Rattle.header.proofs.Room.{Room, heads-room}

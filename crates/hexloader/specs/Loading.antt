@@ -4,7 +4,7 @@ use Prim.Native.Nat.{ℕ}
 use mathlib.Core.List.{List}
 use Rattle.model.specs.Record.{lent}
 use Rattle.model.specs.Load.{Loading}
-use Rattle.machine.specs.Answered.{recordOf}
+use Rattle.machine_record.specs.Struct.{recordOf}
 use Rattle.hexloader.specs.declared.Loaded.{Loaded}
 
 -- The answer: outcome, line, record, and the lent memory at exit.

@@ -12,7 +12,7 @@ use Rattle.model.specs.HexLoad.{loadHex}
 use Rattle.model.specs.Listing as listing
 use Rattle.model.specs.Certificate as certificate
 use Rattle.model.specs.View as viewing
-use Rattle.machine.specs.Answered.{recordOf}
+use Rattle.machine_record.specs.Struct.{recordOf}
 use Rattle.header.specs.declared.Loaded.{Loaded}
 use Rattle.printer.specs.declared.Printed.{Printed}
 use Rattle.header.specs.Loading as load

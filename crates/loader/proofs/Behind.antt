@@ -16,7 +16,7 @@ use Rattle.model.specs.Load.{blank, behindHeader, Verdict, refuse, accept, judg
 use Rattle.model.proofs.Load.{judge-size}
 use Rattle.texts.proofs.Storable.{accepted-storable}
 use Rattle.texts.proofs.Kept.{over, kept-over}
-use Rattle.machine.specs.Answered.{recordOf}
+use Rattle.machine_record.specs.Struct.{recordOf}
 use Rattle.header.specs.declared.Loaded.{Loaded}
 use Rattle.header.specs.Loading.{loadingOf, IsRefusal, headed}
 use Rattle.header.proofs.Heading.{headed-accepts, headed-refuses}

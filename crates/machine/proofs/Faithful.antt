@@ -1,21 +1,12 @@
--- The record of a machine's struct and the answer of a call forget nothing: equal ones come from equal structs.
+-- The answer of a call forgets nothing: equal ones come from equal structs.
 -- Assumes nothing.
 use Prim.Native.Nat.{ℕ}
 use mathlib.Core.Path.{_≡_, ap}
 use mathlib.Core.List.{List}
-use Rattle.model.specs.Record as records
 use Rattle.model.specs.Answer as model
-use Rattle.machine.specs.declared.Machine.{Machine}
+use Rattle.machine_record.proofs.Faithful.{structOf}
 use Rattle.machine.specs.declared.Answer.{Answer}
-use Rattle.machine.specs.Answered.{recordOf, answered}
-
--- The struct of a record.
-abbrev pub structOf : records.Machine → Machine
-structOf r = record { fixed = r .fixed; control = r .control; values = r .registers .values; labels = r .registers .labels }
-
--- Equal records come from equal structs.
-pub faithful : (m n : Machine) → recordOf m ≡ recordOf n → m ≡ n
-faithful m n e = ap structOf e
+use Rattle.machine.specs.Answered.{answered}
 
 -- Equal answers come from equal structs.
 pub same-answer : (r r′ : Answer) (w l w′ l′ : List ℕ) → answered r w l ≡ answered r′ w′ l′ → r ≡ r′

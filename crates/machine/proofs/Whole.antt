@@ -1,54 +1,31 @@
--- Laws about the whole record: when it is well-formed, and what a call answers.
+-- Laws about the whole record: what a call answers.
 -- Assumes nothing.
 use Prim.Native.Nat.{ℕ, _+_, _-_}
 use mathlib.Core.Path.{_≡_, refl, sym, ap, _∙_}
-use mathlib.Core.Bool.{true, false, _&&_}
+use mathlib.Core.Bool.{true, false}
 use mathlib.Core.List.{List}
 use native.Mathlib.Nat.{le-refl}
 use Rattle.causes.specs.declared.Cause.the-variants.{ShortMemory, IllFormed}
 use Rattle.causes.specs.declared.Outcome.the-variants.{Done, Refused}
-use Rattle.model.specs.declared.Pair.{Pair}
 use Rattle.model.specs.declared.Control.{Control}
 use Rattle.model.specs.declared.Request.{Request}
 use Rattle.model.specs.declared.Request.the-variants.{Step, Run, RunTo}
-use Rattle.model.specs.declared.Call.{Call}
-use Rattle.model.specs.declared.Call.the-variants.{Empty, Gate, Upcall}
 use lib.Dec.{ltb}
 use borrow.Author.Tests.{le-ltb, ltb-true}
-use Rattle.model.specs.Record.{State, machineOf, stateFrom, isEmpty, lent}
-use Rattle.model.specs.WellFormed.{isValid, upcallWellFormed, callsWellFormed, wellFormed, lentWhole}
+use Rattle.model.specs.Record.{State, machineOf, stateFrom, lent}
+use Rattle.model.specs.WellFormed.{wellFormed, lentWhole}
 use Rattle.model.specs.Step.{run, runTo}
 use Rattle.model.specs.Answer.{answer, work, answerOf}
 use Rattle.model.proofs.Truth.{choice}
 use Rattle.model.proofs.Ready.{fit}
 use Rattle.model.proofs.RunTo.{unbarred, past-stays}
-use Rattle.machine.specs.declared.Machine.{Machine}
+use Rattle.machine_record.specs.declared.Machine.{Machine}
 use Rattle.engine.specs.declared.Pace.{Pace}
 use Rattle.engine.specs.Advance.{paced, advanced}
 use Rattle.engine.proofs.Fitting.{ready-fitting}
-use Rattle.machine.specs.Answered.{recordOf, answered}
+use Rattle.machine_record.specs.Struct.{recordOf}
+use Rattle.machine.specs.Answered.{answered}
 use Rattle.machine.specs.Inner.Carried.{paceOf, Carried}
-use Rattle.machine.specs.Inner.WellFormed.{overGate}
-
--- ---- the two places for open calls, by the first
-
-pub calls-empty : (c : Control) (second : Call) → isEmpty second ≡ callsWellFormed c Empty second
-calls-empty c Empty = refl
-calls-empty c (Gate k q) = refl
-calls-empty c (Upcall k q e) = refl
-
-pub calls-gate : (c : Control) (k : ℕ) (q : Pair) (second : Call) → overGate (isValid q) c second ≡ callsWellFormed c (Gate k q) second
-calls-gate c k q Empty = refl
-calls-gate c k q (Gate k′ q′) = refl
-calls-gate c k q (Upcall k′ q′ e′) = refl
-
-pub calls-upcall : (c : Control) (k : ℕ) (q : Pair) (e : ℕ) (second : Call)
-    → (isEmpty second && upcallWellFormed c q e) ≡ callsWellFormed c (Upcall k q e) second
-calls-upcall c k q e Empty = refl
-calls-upcall c k q e (Gate k′ q′) = refl
-calls-upcall c k q e (Upcall k′ q′ e′) = refl
-
--- ---- what a call answers
 
 -- The steps at a request's pace are what is asked for: of a run the limit bars none, and a run to a tick that is past does
 -- nothing.

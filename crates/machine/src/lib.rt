@@ -1,51 +1,22 @@
-// The machine: its record, what its calls answer, and whether the record is well-formed. One step and the run are in
-// steps.rt.
+// The machine's calls: one step, the run and the run to a tick. A record that is not well-formed, or memory that is lent too
+// short, is refused; then the record comes back and memory is left.
+use causes::Cause;
 use causes::Outcome;
+use engine::Pace;
+use engine::Task;
+use engine::advance;
 use labels::Bits;
-use labels::Label;
-use model::Call;
-use model::CallGate;
-use model::Control;
-use model::Fixed;
-use model::Pair;
-use model::numbers::MOST_GATES;
-use model::numbers::REGISTER_COUNT;
-use model::numbers::ZERO_REGISTER;
-use wellformed::calls_well_formed;
-use wellformed::end_in_range;
-use wellformed::fixed_in_range;
-use wellformed::gates_valid;
+use machine_record::Machine;
+use machine_record::is_lent_whole;
+use model::Request;
 ghost use mathlib.Core.Path.{_≡_};
+ghost use mathlib.Core.Bool.{true};
 ghost use Rattle.model.specs.Record.{lent};
-ghost use Rattle.model.specs.WellFormed.{isBlank, wellFormed, lentWhole};
-ghost use Rattle.model.specs.Load.{machineOfHeader};
-ghost use Rattle.machine.specs.Answered.{recordOf};
-
-mod steps;
-mod wellformed;
-
-// The machine record.
-pub struct Machine {
-    pub fixed: Fixed,
-    pub control: Control,
-    pub values: [u32; REGISTER_COUNT],
-    pub labels: [Bits; REGISTER_COUNT],
-}
-
-// Whether the lent words and their labels, the marks, are each at least as long as the size.
-pub fn is_lent_whole(size: u32, words: &[u32], marks: &[Bits]) -> bool
-    ensures { λ r. ⌜ r ≡ lentWhole size (lent (now (words .entry)) (now (marks .entry))) ⌝ }
-{
-    let count = size as usize;
-    (count <= words.len()) & (count <= marks.len())
-}
-
-// Whether a register or word has value 0 and the lowest label.
-pub fn is_blank(label: Bits, value: u32) -> bool
-    ensures { λ r. ⌜ r ≡ isBlank label value ⌝ }
-{
-    (value == 0) & Label(label).is_lowest()
-}
+ghost use Rattle.model.specs.WellFormed.{wellFormed, lentWhole};
+ghost use Rattle.model.specs.Answer.{answerOf, stepAnswer, runAnswer, runToAnswer};
+ghost use Rattle.machine_record.specs.Struct.{recordOf};
+ghost use Rattle.machine.specs.Answered.{answered};
+ghost use Rattle.machine.specs.Inner.Carried.{paceOf, Carried};
 
 // What a call answers.
 pub struct Answer {
@@ -53,63 +24,78 @@ pub struct Answer {
     pub machine: Machine,
 }
 
-impl Machine {
-    // The record before its first step: clock, end and why at 0, no open call, no gate, all registers of value 0 and the
-    // lowest label.
-    pub fn blank(size: u32, errorpc: u32, pc: u32, pair: Pair, limit: u32) -> Machine
-        ensures { λ r. ⌜ recordOf r ≡ machineOfHeader (record { size = size; errorpc = errorpc; pc = pc; p = pair .pc; t = pair .timing; limit = limit }) ⌝ }
-    {
-        let none = CallGate {
-            entry: 0,
-            pair: Pair { pc: 0, timing: 0 },
-        };
-        let gates = [none; MOST_GATES as usize];
-        let fixed = Fixed {
-            size,
-            limit,
-            errorpc,
-            count: 0,
-            gates,
-        };
-        let control = Control {
-            pc,
-            pair,
-            clock: 0,
-            first: Call::Empty,
-            second: Call::Empty,
-            end: 0,
-            why: 0,
-        };
-        let values = [0u32; REGISTER_COUNT];
-        let labels = [Label::LOWEST.0; REGISTER_COUNT];
-        Machine {
-            fixed,
-            control,
-            values,
-            labels,
-        }
+// How far the steps of a request go: no step of a run finishes past the limit.
+fn pace_of(request: Request, limit: u32) -> Pace
+    ensures { λ r. ⌜ r ≡ paceOf request limit ⌝ }
+{
+    match request {
+        Request::Step => Pace::Once,
+        Request::Run => Pace::Onward(limit as u64),
+        Request::RunTo(tick) => Pace::Onward(tick),
     }
+}
 
-    // Whether the record is well-formed.
-    pub fn is_well_formed(self) -> bool
-        ensures { λ r. ⌜ r ≡ wellFormed (recordOf self) ⌝ }
-    {
-        let fixed = self.fixed;
-        let control = self.control;
-        let pair = control.pair;
-        let first = control.first;
-        let second = control.second;
-        let values = self.values;
-        let labels = self.labels;
-        let gates = fixed.gates;
-        if !fixed_in_range(fixed.size, fixed.limit, fixed.count) {
-            return false;
-        }
-        end_in_range(control.end, control.why)
-            & (control.clock <= fixed.limit)
-            & Label(pair.pc).is_valid_pair(Label(pair.timing))
-            & calls_well_formed(pair.pc, pair.timing, control.clock, first, second)
-            & is_blank(labels[ZERO_REGISTER], values[ZERO_REGISTER])
-            & gates_valid(gates, fixed.count)
+// What is asked for, of a well-formed record with memory that is lent whole.
+fn carried(machine: Machine, request: Request, words: &mut [u32], marks: &mut [Bits]) -> Machine
+    requires { ⌜ (wellFormed (recordOf machine) ≡ true) × (lentWhole (machine .fixed .size) (lent (now words) (now marks)) ≡ true) ⌝ }
+    ensures { λ r. ⌜ Carried request machine (now (words .entry)) (now (marks .entry)) r (now (words .exit)) (now (marks .exit)) ⌝ }
+{
+    let fixed = machine.fixed;
+    let start = machine.control;
+    let mut values = machine.values;
+    let mut labels = machine.labels;
+    let pace = pace_of(request, fixed.limit);
+    let task = Task { start, pace };
+    let control = advance(fixed, task, &mut values, &mut labels, words, marks);
+    Machine {
+        fixed,
+        control,
+        values,
+        labels,
     }
+}
+
+// A refusal gives the record back.
+fn refused(machine: Machine, cause: Cause) -> Answer
+    ensures { λ r. ⌜ r ≡ record { outcome = Outcome.Refused cause; machine = machine } ⌝ }
+{
+    let outcome = Outcome::Refused(cause);
+    Answer { outcome, machine }
+}
+
+// The answer of one step, of a run or of a run to a tick.
+pub fn answer_of(machine: Machine, request: Request, words: &mut [u32], marks: &mut [Bits]) -> Answer
+    ensures { λ r. ⌜ answered r (now (words .exit)) (now (marks .exit)) ≡ answerOf request (recordOf machine) (lent (now (words .entry)) (now (marks .entry))) ⌝ }
+{
+    if machine.is_well_formed() {
+        let fixed = machine.fixed;
+        if is_lent_whole(fixed.size, words, marks) {
+            let outcome = Outcome::Done;
+            let machine = carried(machine, request, words, marks);
+            return Answer { outcome, machine };
+        }
+        return refused(machine, Cause::ShortMemory);
+    }
+    refused(machine, Cause::IllFormed)
+}
+
+// One step.
+pub fn step(machine: Machine, words: &mut [u32], marks: &mut [Bits]) -> Answer
+    ensures { λ r. ⌜ answered r (now (words .exit)) (now (marks .exit)) ≡ stepAnswer (recordOf machine) (lent (now (words .entry)) (now (marks .entry))) ⌝ }
+{
+    answer_of(machine, Request::Step, words, marks)
+}
+
+// Steps until the end isn't 0.
+pub fn run(machine: Machine, words: &mut [u32], marks: &mut [Bits]) -> Answer
+    ensures { λ r. ⌜ answered r (now (words .exit)) (now (marks .exit)) ≡ runAnswer (recordOf machine) (lent (now (words .entry)) (now (marks .entry))) ⌝ }
+{
+    answer_of(machine, Request::Run, words, marks)
+}
+
+// The steps that finish at or before the tick.
+pub fn run_to(machine: Machine, tick: u64, words: &mut [u32], marks: &mut [Bits]) -> Answer
+    ensures { λ r. ⌜ answered r (now (words .exit)) (now (marks .exit)) ≡ runToAnswer tick (recordOf machine) (lent (now (words .entry)) (now (marks .entry))) ⌝ }
+{
+    answer_of(machine, Request::RunTo(tick), words, marks)
 }

@@ -4,7 +4,7 @@ use Prim.Native.Nat.{ℕ}
 use mathlib.Core.Path.{_≡_, ap}
 use mathlib.Core.List.{List}
 use Rattle.model.specs.Listing.{Printing}
-use Rattle.machine.proofs.Faithful.{structOf}
+use Rattle.machine_record.proofs.Faithful.{structOf}
 use Rattle.printer.specs.declared.Printed.{Printed}
 use Rattle.printer.specs.Printing.{printingOf}
 

@@ -11,7 +11,8 @@ use Rattle.model.specs.Record.{Bank, Machine}
 use Rattle.model.specs.Answer as model
 use Rattle.model.proofs.Truth.{clash}
 use Rattle.machine.specs.declared.Answer as struct
-use Rattle.machine.specs.Answered.{recordOf, answered}
+use Rattle.machine_record.specs.Struct.{recordOf}
+use Rattle.machine.specs.Answered.{answered}
 use Rattle.decoder.specs.declared.Reading.{Reading}
 use Rattle.decoder.specs.declared.Found.the-variants as found
 use Rattle.decoder.specs.Held.{Holding, holds, nothing}

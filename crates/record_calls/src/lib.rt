@@ -4,12 +4,13 @@ use causes::Cause;
 use causes::Outcome;
 use decoder::Found;
 use labels::Bits;
-use machine::Machine;
+use machine::answer_of;
+use machine_record::Machine;
 use model::Request;
 ghost use mathlib.Core.Path.{_≡_};
 ghost use Rattle.model.specs.Record.{lent};
 ghost use Rattle.model.specs.Answer.{answerOf};
-ghost use Rattle.machine.specs.Answered.{recordOf};
+ghost use Rattle.machine_record.specs.Struct.{recordOf};
 ghost use Rattle.record_calls.specs.RecordCalls.{isShort, noRecord, left, keptRecord, recordCall};
 
 // How many words a record takes.
@@ -54,7 +55,7 @@ pub fn advanced(request: Request, record: &mut [u64], words: &mut [u32], labels:
         return no_record();
     }
     let machine = reading.machine;
-    let answer = machine.answer(request, words, labels);
+    let answer = answer_of(machine, request, words, labels);
     let outcome = answer.outcome;
     let next = answer.machine;
     keep(outcome, next, record);

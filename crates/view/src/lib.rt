@@ -4,6 +4,7 @@ use causes::Cause;
 use causes::Outcome;
 use labels::Bits;
 use loader::load;
+use machine::run_to;
 use model::numbers;
 use printer::print_for;
 use writer::write_line;
@@ -64,7 +65,7 @@ pub fn view(
     if (limit as u64) < tick {
         return refused(Outcome::Refused(Cause::TickAboveLimit), limit);
     }
-    let answer = machine.run_to(tick, words, labels);
+    let answer = run_to(machine, tick, words, labels);
     let there = answer.machine;
     let printed = print_for(there, label, words, labels, out);
     let listed = printed.outcome;

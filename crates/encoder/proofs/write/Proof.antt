@@ -3,7 +3,7 @@
 use mathlib.Core.Path.{refl, _∙_}
 use borrow.Author.Needs.{needs}
 use borrow.Author.Tests.{lt-leb, le-leb}
-use Rattle.machine.specs.Answered.{recordOf}
+use Rattle.machine_record.specs.Struct.{recordOf}
 use Rattle.encoder.specs.Places.{span}
 use Rattle.encoder.specs.Layout.{wordsOf}
 use Rattle.encoder.specs.Writing as writing

@@ -5,7 +5,7 @@ use borrow.Author.Needs.{needs}
 use Rattle.causes.specs.Causes.{isDone}
 use Rattle.model.specs.Record.{lent}
 use Rattle.model.specs.Load.{Loading}
-use Rattle.machine.specs.Answered.{recordOf}
+use Rattle.machine_record.specs.Struct.{recordOf}
 use Rattle.writer.specs.Writing.{answer}
 use Rattle.fire.proofs.Laws.{refused-firing, accepted-firing}
 use Rattle.fire.proofs.fire_loaded.Statement.{statement}

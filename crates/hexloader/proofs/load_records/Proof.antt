@@ -5,7 +5,7 @@ use mathlib.Core.Path.{sym, ap, _∙_}
 use mathlib.Core.List.{List}
 use borrow.Author.Needs.{needs}
 use Rattle.model.specs.Record.{lent}
-use Rattle.machine.specs.Answered.{recordOf}
+use Rattle.machine_record.specs.Struct.{recordOf}
 use Rattle.hexloader.specs.Inner.Judging.{loadRecords}
 use Rattle.hexloader.proofs.Answer.{some-places, some-length}
 use Rattle.hexloader.proofs.load_records.Statement.{statement}

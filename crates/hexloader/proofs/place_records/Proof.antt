@@ -2,7 +2,7 @@
 -- Assumes nothing.
 use mathlib.Core.Path.{refl}
 use borrow.Author.Needs.{needs}
-use Rattle.machine.specs.Answered.{recordOf}
+use Rattle.machine_record.specs.Struct.{recordOf}
 use Rattle.hexloader.proofs.Answer.{record-refused, records-accepted}
 use Rattle.hexloader.proofs.place_records.Statement.{statement}
 use Rattle.hexloader.proofs.place_records.Tie as tie

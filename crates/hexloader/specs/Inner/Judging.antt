@@ -12,7 +12,7 @@ use Rattle.model.specs.Record.{Bank, Machine}
 use Rattle.model.specs.Hex.{records}
 use Rattle.model.specs.Load.{Verdict, refuse, accept, tried, Loading, noMachine}
 use Rattle.model.specs.HexLoad.{give, judgeRecords, settleRecords}
-use Rattle.machine.specs.Answered.{recordOf}
+use Rattle.machine_record.specs.Struct.{recordOf}
 use Rattle.hexreader.specs.declared.Found.{Found}
 use Rattle.hexreader.specs.declared.Found.the-variants.{Data, End, Bad}
 use Rattle.hexloader.specs.declared.Loaded.{Loaded}

@@ -7,7 +7,7 @@ use mathlib.Core.List.{List}
 use native.Mathlib.Omega.{arith}
 use lib.ListN.{length}
 use borrow.Author.Needs.{needs}
-use Rattle.machine.specs.Answered.{recordOf}
+use Rattle.machine_record.specs.Struct.{recordOf}
 use Rattle.model.specs.Record.{Machine, lent}
 use Rattle.model.specs.Load.{Verdict}
 use Rattle.header.specs.Loading.{headed}

@@ -9,7 +9,7 @@ use Rattle.model.specs.Numbers.{mostWords}
 use Rattle.model.specs.Record.{lent}
 use Rattle.model.specs.Text.{lines}
 use Rattle.model.specs.Load.{blank}
-use Rattle.machine.specs.Answered.{recordOf}
+use Rattle.machine_record.specs.Struct.{recordOf}
 use Rattle.loader.specs.Inner.Judging.{LinesJudged}
 use Rattle.loader.proofs.Behind.{judged-blank, line-refused, lines-accepted}
 use Rattle.loader.proofs.load_lines.Statement.{statement}

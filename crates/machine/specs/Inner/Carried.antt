@@ -9,8 +9,8 @@ use Rattle.model.specs.Record.{machineOf, stateOf, lent}
 use Rattle.model.specs.Answer.{work}
 use Rattle.engine.specs.declared.Pace.{Pace}
 use Rattle.engine.specs.declared.Pace.the-variants.{Once, Onward}
-use Rattle.machine.specs.declared.Machine.{Machine}
-use Rattle.machine.specs.Answered.{recordOf}
+use Rattle.machine_record.specs.declared.Machine.{Machine}
+use Rattle.machine_record.specs.Struct.{recordOf}
 
 -- How far its steps go: no step of a run finishes past the limit.
 abbrev pub paceOf : Request → ℕ → Pace

@@ -3,7 +3,7 @@
 use borrow.Author.Needs.{needs}
 use borrow.Author.Tests.{not-true, not-false}
 use Rattle.model.specs.Record.{Machine, Bank, lent}
-use Rattle.machine.specs.Answered.{recordOf}
+use Rattle.machine_record.specs.Struct.{recordOf}
 use Rattle.printer.proofs.Answers.{ill-formed, short-memory, lent-whole, whole}
 use Rattle.printer.proofs.print_for.Statement.{statement}
 use Rattle.printer.proofs.print_for.Tie as tie

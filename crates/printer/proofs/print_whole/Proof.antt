@@ -6,7 +6,7 @@ use native.Mathlib.Omega.{arith}
 use borrow.Author.Needs.{needs}
 use Rattle.model.specs.Record.{Machine}
 use Rattle.model.specs.Listing.{listingFor}
-use Rattle.machine.specs.Answered.{recordOf}
+use Rattle.machine_record.specs.Struct.{recordOf}
 use Rattle.printer.specs.Inner.Placing.{stateWith}
 use Rattle.printer.proofs.Answers.{short-output, long-output}
 use Rattle.printer.proofs.print_whole.Statement.{statement}

@@ -7,8 +7,8 @@ use lib.ListN.{length, take}
 use Rattle.model.specs.Numbers.{mostWords}
 use Rattle.model.specs.Record.{State, stateOf, lent}
 use Rattle.writer.specs.Inner.Wrote.{Wrote}
-use Rattle.machine.specs.declared.Machine as struct
-use Rattle.machine.specs.Answered.{recordOf}
+use Rattle.machine_record.specs.declared.Machine as struct
+use Rattle.machine_record.specs.Struct.{recordOf}
 
 -- The state of a machine with lent words and their labels, the marks.
 abbrev pub stateWith : struct.Machine → List ℕ → List ℕ → State

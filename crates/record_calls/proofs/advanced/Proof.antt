@@ -53,8 +53,8 @@ returns-2 c =
 enum-told-2 : tie.Need-enum-told-2
 enum-told-2 c = search needs
 
-answer-requires : tie.Need-answer-requires
-answer-requires c κs = search needs
+answer-of-requires : tie.Need-answer-of-requires
+answer-of-requires c κs = search needs
 
 keep-requires : tie.Need-keep-requires
 keep-requires c κs = search needs
@@ -87,7 +87,7 @@ returns-3 c =
     let memory = lent (start .args .words .now) (start .args .labels .now) in
     when-long (untouched buffer memory) span buffer (long .before .is-short .ensures) (long .if1 .left)
     (was-called (answerOf (start .args .request)) buffer memory (reading .read .result) (machineIn buffer)
-    (called .answer .result) (reading .read .ensures) (found .enum-told2 .given .1) (called .answer .ensures)
+    (called .answer-of .result) (reading .read .ensures) (found .enum-told2 .given .1) (called .answer-of .ensures)
     (c .number .ensures) (kept .keep .ensures))
 
 pub advanced-spec : {M : Type 1} → statement M
@@ -103,7 +103,7 @@ advanced-spec =
     same-length-2
     returns-2
     enum-told-2
-    answer-requires
+    answer-of-requires
     keep-requires
     number-requires
     cast-result

@@ -3,7 +3,7 @@
 use mathlib.Core.Path.{_≡_}
 use lib.ListN.{length}
 use borrow.Author.Needs.{needs}
-use Rattle.machine.specs.Answered.{recordOf}
+use Rattle.machine_record.specs.Struct.{recordOf}
 use Rattle.encoder.proofs.Laws.{put-parts, length-words}
 use Rattle.encoder.proofs.encode.put_machine.Statement.{statement}
 use Rattle.encoder.proofs.encode.put_machine.Tie as tie

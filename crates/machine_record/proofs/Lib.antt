@@ -1,0 +1,3 @@
+-- Laws about the record.
+mod Places
+pub mod Faithful

@@ -1,0 +1,3 @@
+pub mod Struct
+-- What only the contracts of inner functions cite.
+pub mod Inner
