@@ -6,6 +6,7 @@ use crate::calls::{Calls, SHORT_BUFFER};
 use crate::library::Library;
 use crate::loads::{size_of, Refused, LOAD_HEX};
 use crate::trials::{Due, Trials};
+use crate::verdict::behind_difference;
 use interpreter::generator::hex::damage::{damage, name, plans, Damaged, Plan};
 use interpreter::generator::hex::draft::{HexDraft, KINDS};
 use interpreter::generator::hex::HexImage;
@@ -141,6 +142,7 @@ impl HexTrial {
             trials.failed += 1;
             println!("load of its text leaves something else: {:?}", before.difference(&after));
             println!("{}", self.shown());
+            behind_difference();
         }
     }
 }

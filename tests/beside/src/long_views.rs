@@ -6,6 +6,7 @@ use crate::chains::try_chain;
 use crate::fired::Fired;
 use crate::library::Library;
 use crate::trials::Trials;
+use crate::verdict::behind_difference;
 use crate::views::try_image;
 use interpreter::draft::Draft;
 use interpreter::generator::random::Random;
@@ -47,6 +48,7 @@ fn try_far_on(trials: &mut Trials, random: &mut Random, name: &str, image: &Draf
     } else {
         trials.failed += 1;
         println!("{name} at tick {tick} is viewed as {viewed:?}, and fired to it as {fired:?}");
+        behind_difference();
     }
 }
 

@@ -6,6 +6,7 @@ use crate::library::Library;
 use crate::other::Other;
 use crate::tally::Tally;
 use crate::trials::Trials;
+use crate::verdict::behind_difference;
 use interpreter::generator::random::Random;
 use std::env;
 
@@ -57,6 +58,7 @@ impl Trial {
                 if self.trials.failed <= SHOWN {
                     show(&what);
                 }
+                behind_difference();
             }
         }
     }

@@ -11,7 +11,7 @@ use crate::layout::at;
 use crate::library::Library;
 use crate::other::Other;
 use crate::tally::Tally;
-use crate::verdict::close;
+use crate::verdict::{behind_difference, close};
 use interpreter::generator::random::Random;
 use interpreter::Label;
 use std::process::ExitCode;
@@ -254,6 +254,7 @@ impl Trials {
                 println!("library and interpreter after: {:?}", ours.difference(&theirs));
                 println!("record before: {:?}", before.record.get());
             }
+            behind_difference();
         }
         ours
     }

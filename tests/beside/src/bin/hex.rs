@@ -9,6 +9,7 @@ use beside::hex_loads::{expected, HexTrial, Source};
 use beside::program::run;
 use beside::tally::Tally;
 use beside::trials::Trials;
+use beside::verdict::behind_difference;
 use interpreter::fire_hex;
 use interpreter::generator::hex::HexImage;
 use interpreter::generator::random::Random;
@@ -88,6 +89,7 @@ impl Program {
             println!("by {}\n{}", self.name, String::from_utf8_lossy(&ours));
             println!("by the interpreter\n{}", String::from_utf8_lossy(&theirs));
         }
+        behind_difference();
     }
 }
 

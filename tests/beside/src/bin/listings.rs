@@ -7,7 +7,7 @@
 
 use beside::parting::first_parting;
 use beside::program::run;
-use beside::verdict::close;
+use beside::verdict::{behind_difference, close};
 use interpreter::fire;
 use interpreter::generator::Generator;
 use std::env;
@@ -30,6 +30,7 @@ fn main() -> ExitCode {
             passed += 1;
         } else {
             failed += 1;
+            behind_difference();
         }
     }
     print!("{}", generator.census);
