@@ -1,6 +1,6 @@
 -- From what the functions below promise to what the calls promise.
 -- Assumes nothing.
-use Prim.Native.Nat.{ℕ, _+_, _^_, _≤_}
+use Prim.Native.Nat.{ℕ, _+_, _^_, _≤_, _<_}
 use mathlib.Core.Path.{_≡_, refl, ap, _∙_}
 use mathlib.Core.List.{List, [], _∷_}
 use lib.ListN.{length, set}
@@ -27,28 +27,27 @@ use Rattle.decoder.specs.declared.Reading.{Reading}
 use Rattle.decoder.specs.declared.Found.the-variants as found
 use Rattle.decoder.specs.Held.{Holding, holds, nothing}
 use Rattle.decoder.specs.Reading.{given, readOf}
-use Rattle.record_calls.specs.RecordCalls.{noRecord, left, kept, keptRecord}
+use Rattle.record_calls.specs.RecordCalls.{noRecord, Left, left, kept}
 use Rattle.record_calls.proofs.Laws.{no-record, some-record, same-record}
-use Rattle.jennydusk.specs.Calls.{counted, afterLoading, afterLoadingHex, certificateSpan, holdingCertificate, afterCertifying, shown, afterPrinting, unwritten, printed, looked, afterViewing, viewCall}
+use Rattle.load_calls.specs.Loads.{counted, afterLoading, LeftLine, afterLoadingHex}
+use Rattle.jennydusk.specs.Calls.{certificateSpan, holdingCertificate, afterCertifying, shown, afterPrinting, unwritten, printed, looked, afterViewing, viewCall}
 use Rattle.jennydusk.proofs.Length.{bytes-most}
 
 -- ---- load
 
 -- A buffer that is long enough.
 pub was-loaded :
-    (text : List ℕ) (m : Bank) (b : List ℕ) (a : Loaded) {number line answer : ℕ} {buffer words labels : List ℕ}
-    → load.loadingOf a words labels ≡ loading.load text m → number ≡ numberOf (a .outcome) → line ≡ a .line
-    → buffer ≡ keptRecord (a .outcome) (recordOf (a .machine)) b → answer ≡ counted number line
-    → left answer buffer words labels ≡ afterLoading (loading.load text m) b
-was-loaded text m b a e n l k c = rw (k, c, n, l) (ap (λ (z : loading.Loading). afterLoading z b) e)
+    (text : List ℕ) (m : Bank) (b : List ℕ) (a : Loaded) {words labels : List ℕ} {x : Left}
+    → load.loadingOf a words labels ≡ loading.load text m → x ≡ afterLoading (load.loadingOf a words labels) b
+    → x ≡ afterLoading (loading.load text m) b
+was-loaded text m b a e n = n ∙ ap (λ (z : loading.Loading). afterLoading z b) e
 
 -- From HEX.
 pub was-loaded-hex :
-    (text hex : List ℕ) (label : ℕ) (m : Bank) (b : List ℕ) (a : hexloader.Loaded) {number line : ℕ} {buffer words labels : List ℕ}
-    → loadingOf a words labels ≡ loadHex text hex label m → number ≡ numberOf (a .outcome) → line ≡ a .line
-    → buffer ≡ keptRecord (a .outcome) (recordOf (a .machine)) b
-    → record { left = left number buffer words labels; line = line } ≡ afterLoadingHex (loadHex text hex label m) b
-was-loaded-hex text hex label m b a e n l k = rw (k, n, l) (ap (λ (z : loading.Loading). afterLoadingHex z b) e)
+    (text hex : List ℕ) (label : ℕ) (m : Bank) (b : List ℕ) (a : hexloader.Loaded) {words labels : List ℕ} {x : LeftLine}
+    → loadingOf a words labels ≡ loadHex text hex label m → x ≡ afterLoadingHex (loadingOf a words labels) b
+    → x ≡ afterLoadingHex (loadHex text hex label m) b
+was-loaded-hex text hex label m b a e n = n ∙ ap (λ (z : loading.Loading). afterLoadingHex z b) e
 
 -- ---- certify
 
@@ -71,7 +70,7 @@ was-certified ℓ text m b a e n l k c = rw (k, c, n, l) (ap (λ (z : certificat
 -- The lengths that print answers fit an answer.
 pub small-length :
     (ℓ : ℕ) (r : Machine) (m : Bank) (before : List ℕ) (a : Printed) (after : List ℕ)
-    → print.printingOf a after ≡ listing.printFor ℓ r m before → a .bytes ≤ 2 ^ 32
+    → print.printingOf a after ≡ listing.printFor ℓ r m before → a .bytes < 2 ^ 32
 small-length ℓ r m before a after e = rw (ap (λ (z : listing.Printing). z .bytes) e) (bytes-most ℓ r m before)
 
 module _ (ℓ : ℕ) (m : Bank) (before : List ℕ) (x : Reading) where

@@ -1,6 +1,6 @@
 -- A listing is short enough for its length to be a part of an answer, and so is what a view counts.
 -- Assumes nothing.
-use Prim.Native.Nat.{ℕ, _+_, _^_, _≤_}
+use Prim.Native.Nat.{ℕ, _+_, _^_, _≤_, _<_}
 use mathlib.Core.Path.{_≡_}
 use native.Mathlib.Omega.{arith}
 use mathlib.Core.List.{List}
@@ -18,7 +18,7 @@ use Rattle.texts.specs.Inner.Sight.{controlSeen, bankSeen}
 use Rattle.texts.proofs.Listing.{head-for-most, entries-most, listing-length}
 use Rattle.texts.proofs.Buffer.{view-reply-bound}
 
-listing-most : (ℓ : ℕ) (s : State) → s .fixed .size ≤ mostWords → length (listingFor ℓ s) ≤ 2 ^ 32
+listing-most : (ℓ : ℕ) (s : State) → s .fixed .size ≤ mostWords → length (listingFor ℓ s) < 2 ^ 32
 listing-most ℓ s h =
     rw (listing-length ℓ s h)
     (omega (
@@ -29,28 +29,28 @@ listing-most ℓ s h =
     ))
 
 -- The length that print answers.
-pub bytes-most : (ℓ : ℕ) (r : Machine) (m : Bank) (out : List ℕ) → printFor ℓ r m out .bytes ≤ 2 ^ 32
+pub bytes-most : (ℓ : ℕ) (r : Machine) (m : Bank) (out : List ℕ) → printFor ℓ r m out .bytes < 2 ^ 32
 unfolding printFor listed
 bytes-most ℓ r m out =
-    choice (λ (a : Printing). a .bytes ≤ 2 ^ 32) (wellFormed r) _ _
+    choice (λ (a : Printing). a .bytes < 2 ^ 32) (wellFormed r) _ _
     (λ w.
-    choice (λ (a : Printing). a .bytes ≤ 2 ^ 32) (lentWhole (r .fixed .size) m) _ _
+    choice (λ (a : Printing). a .bytes < 2 ^ 32) (lentWhole (r .fixed .size) m) _ _
     (λ _.
-    choice (λ (a : Printing). a .bytes ≤ 2 ^ 32) (leb (length (listingFor ℓ (stateOf r m))) (length out)) _ _
+    choice (λ (a : Printing). a .bytes < 2 ^ 32) (leb (length (listingFor ℓ (stateOf r m))) (length out)) _ _
     (λ _. listing-most ℓ (stateOf r m) (fit r w .fixed .sizeHigh)) (λ _. omega arith))
     (λ _. omega arith))
     (λ _. omega arith)
 
 -- The value and the length of a view, of which one is 0.
-view-counts : (ℓ : ℕ) (x : Look) (out : List ℕ) → length (viewReply ℓ x) ≤ 2 ^ 32 → viewOf ℓ x out .value ≤ 2 ^ 32
-    → viewOf ℓ x out .value + viewOf ℓ x out .bytes ≤ 2 ^ 32
+view-counts : (ℓ : ℕ) (x : Look) (out : List ℕ) → length (viewReply ℓ x) < 2 ^ 32 → viewOf ℓ x out .value < 2 ^ 32
+    → viewOf ℓ x out .value + viewOf ℓ x out .bytes < 2 ^ 32
 unfolding listed
 view-counts ℓ (refused outcome value m) out l v = omega arith
 view-counts ℓ (arrived s) out l v =
-    choice (λ (a : Printing). 0 + a .bytes ≤ 2 ^ 32) (leb (length (listingFor ℓ s)) (length out)) _ _ (λ _. omega arith) (λ _. omega arith)
+    choice (λ (a : Printing). 0 + a .bytes < 2 ^ 32) (leb (length (listingFor ℓ s)) (length out)) _ _ (λ _. omega arith) (λ _. omega arith)
 
-pub view-most : (ℓ k : ℕ) (text : List ℕ) (m : Bank) (out : List ℕ) (a : View) → a ≡ view ℓ k text m out → a .value ≤ 2 ^ 32
-    → a .value + a .bytes ≤ 2 ^ 32
+pub view-most : (ℓ k : ℕ) (text : List ℕ) (m : Bank) (out : List ℕ) (a : View) → a ≡ view ℓ k text m out → a .value < 2 ^ 32
+    → a .value + a .bytes < 2 ^ 32
 unfolding view viewLoad
 view-most ℓ k text m out a e v =
     rw e (view-counts ℓ (look k (load text m)) out (omega (arith, view-reply-bound ℓ k text m)) (rw e at v))

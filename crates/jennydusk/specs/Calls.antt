@@ -1,31 +1,22 @@
 -- What each call of the library answers and leaves, for every buffer and every length. A record stands in a buffer as the crates
 -- encoder and decoder have it; what its calls share, and the numbers of refusals, are in record_calls.
 -- Assumes nothing.
-use Prim.Native.Nat.{ℕ, _+_, _*_}
+use Prim.Native.Nat.{ℕ, _+_}
 use mathlib.Core.List.{List, _∷_}
 use lib.ListN.{drop}
 use Rattle.labels.specs.Label.{highest}
 use Rattle.causes.specs.Causes.{numberOf}
 use Rattle.model.specs.Record.{Bank, lent}
 use Rattle.model.specs.Answer.{stepAnswer, runAnswer, runToAnswer}
-use Rattle.model.specs.Load.{Loading, load}
+use Rattle.model.specs.Load.{load}
 use Rattle.model.specs.HexLoad.{loadHex}
 use Rattle.model.specs.Listing.{Printing, printFor}
 use Rattle.model.specs.Certificate.{Certificate, Certifying, certifying}
 use Rattle.model.specs.View.{View, view}
 use Rattle.encoder.specs.Places.{span}
 use Rattle.decoder.specs.Held.{Holding, holds, nothing, machineIn}
-use Rattle.record_calls.specs.RecordCalls.{noRecord, unlessShort, Left, untouched, kept, keptRecord, afterAnswer, recordCall}
-
--- ---- a number and a count
-
--- An answer's number is below this one; a line or a length stands above it, as so many times this one.
-abbrev pub numbers : ℕ
-numbers = 256
-
--- A number and a count in one answer.
-abbrev pub counted : ℕ → ℕ → ℕ
-counted number count = number + numbers * count
+use Rattle.record_calls.specs.RecordCalls.{noRecord, unlessShort, Left, untouched, kept, recordCall}
+use Rattle.load_calls.specs.Loads.{counted, afterLoading, LeftLine, afterLoadingHex}
 
 -- ---- calls that may change a record: load, step, run, run to a tick
 
@@ -41,37 +32,15 @@ runCall b m = recordCall runAnswer b m
 unfoldable pub runToCall : ℕ → List ℕ → Bank → Left
 runToCall k b m = recordCall (runToAnswer k) b m
 
--- After the answer of load: its number and line.
-abbrev pub afterLoading : Loading → List ℕ → Left
-afterLoading a b =
-    record {
-      answer = counted (numberOf (a .outcome)) (a .line);
-      buffer = keptRecord (a .outcome) (a .machine) b;
-      memory = a .memory;
-    }
-
 -- jennydusk_load.
 unfoldable pub loadCall : List ℕ → Bank → List ℕ → Left
 loadCall text m b = unlessShort (untouched b m) span b (afterLoading (load text m) b)
 
--- ---- load from HEX, whose line stands in a lent word: its HEX text may have more lines than fit an answer
-
--- What is left, and the lent line at exit.
-pub record LeftLine : Type 0 where
-  pub left : Left
-  pub line : ℕ
+-- ---- load from HEX, whose line stands in a lent word
 
 -- All is left, the line too.
 abbrev pub untouchedLine : List ℕ → Bank → ℕ → ℕ → LeftLine
 untouchedLine b m line answer = record { left = untouched b m answer; line = line }
-
--- After the answer of load: its number alone, and its line.
-abbrev pub afterLoadingHex : Loading → List ℕ → LeftLine
-afterLoadingHex a b =
-    record {
-      left = afterAnswer (record { outcome = a .outcome; machine = a .machine; memory = a .memory }) b;
-      line = a .line;
-    }
 
 -- jennydusk_load_hex.
 unfoldable pub loadHexCall : List ℕ → List ℕ → ℕ → Bank → List ℕ → ℕ → LeftLine

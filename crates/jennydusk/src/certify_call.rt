@@ -1,10 +1,10 @@
 // Certificates for programs in other languages: a text is certified at a label, and the certificate goes to a buffer of
 // 64-bit words that the caller lends.
-use crate::counted;
 use causes::Outcome;
 use certify::Certificate;
 use certify::certify;
 use labels::Bits;
+use load_calls::counted;
 use record_calls::SHORT_BUFFER;
 use record_calls::is_short;
 ghost use Prim.Native.Nat.{_≤_};
@@ -53,8 +53,6 @@ pub extern "C" fn jennydusk_certify(
     let certified = certify(label, text, words, labels);
     let outcome = certified.outcome;
     let found = certified.certificate;
-    let number = outcome.number() as u64;
-    let line = certified.line as u64;
     keep_certificate(outcome, found, certificate);
-    counted(number, line)
+    counted(outcome.number(), certified.line)
 }

@@ -3,35 +3,23 @@
 // load_hex_call has the load from HEX, print_calls listings, view_call views, certify_call certificates, label_calls the
 // label rules.
 use labels::Bits;
+use load_calls::after_loading;
 use loader::load;
 use model::Request;
 use record_calls::RECORD_SPAN;
 use record_calls::SHORT_BUFFER;
 use record_calls::advanced;
 use record_calls::is_short;
-use record_calls::keep;
-ghost use Prim.Native.Nat.{_≤_, _^_};
 ghost use mathlib.Core.Path.{_≡_};
 ghost use Rattle.model.specs.Record.{lent};
 ghost use Rattle.record_calls.specs.RecordCalls.{left};
-ghost use Rattle.jennydusk.specs.Calls.{counted, loadCall, stepCall, runCall, runToCall};
+ghost use Rattle.jennydusk.specs.Calls.{loadCall, stepCall, runCall, runToCall};
 
 mod certify_call;
 mod label_calls;
 mod load_hex_call;
 mod print_calls;
 mod view_call;
-
-// A number is below this one; a line or a length stands above it.
-const NUMBERS: u64 = 256;
-
-// A number and a count in one answer.
-pub(in crate) fn counted(number: u64, count: u64) -> u64
-    requires { ⌜ (number ≤ 255) × (count ≤ 2 ^ 32) ⌝ }
-    ensures { λ r. ⌜ r ≡ counted number count ⌝ }
-{
-    number + NUMBERS * count
-}
 
 // Loads a text: the record goes to its buffer, and the memory to words and labels.
 #[no_mangle]
@@ -47,12 +35,7 @@ pub extern "C" fn jennydusk_load(
         return SHORT_BUFFER;
     }
     let loaded = load(text, words, labels);
-    let outcome = loaded.outcome;
-    let machine = loaded.machine;
-    let number = outcome.number() as u64;
-    let line = loaded.line as u64;
-    keep(outcome, machine, record);
-    counted(number, line)
+    after_loading(loaded, record)
 }
 
 // One step of the record.

@@ -2,10 +2,10 @@
 // goes to a word that the caller lends, since a HEX text may have more lines than fit an answer beside its number.
 use hexloader::load_hex;
 use labels::Bits;
+use load_calls::after_loading_hex;
 use record_calls::RECORD_SPAN;
 use record_calls::SHORT_BUFFER;
 use record_calls::is_short;
-use record_calls::keep;
 ghost use mathlib.Core.Path.{_≡_};
 ghost use Rattle.model.specs.Record.{lent};
 ghost use Rattle.record_calls.specs.RecordCalls.{left};
@@ -29,9 +29,5 @@ pub extern "C" fn jennydusk_load_hex(
         return SHORT_BUFFER;
     }
     let loaded = load_hex(text, hex, label, words, labels);
-    let outcome = loaded.outcome;
-    let machine = loaded.machine;
-    keep(outcome, machine, record);
-    *line = loaded.line;
-    outcome.number() as u64
+    after_loading_hex(loaded, record, line)
 }

@@ -1,8 +1,8 @@
 // Listings for programs in other languages: of the record in a buffer and its memory, for one label or for all.
-use crate::counted;
 use decoder::Found;
 use labels::Bits;
 use labels::Label;
+use load_calls::counted;
 use printer::print_for;
 use record_calls::RECORD_SPAN;
 use record_calls::SHORT_BUFFER;
@@ -34,9 +34,7 @@ pub extern "C" fn jennydusk_print_for(
     let machine = reading.machine;
     let printed = print_for(machine, label, words, labels, out);
     let outcome = printed.outcome;
-    let number = outcome.number() as u64;
-    let bytes = printed.bytes as u64;
-    counted(number, bytes)
+    counted(outcome.number(), printed.bytes as u32)
 }
 
 // Writes the whole listing: that of the highest label, which sees everything.

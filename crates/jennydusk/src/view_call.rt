@@ -1,6 +1,6 @@
 // A view for programs in other languages: a text is loaded, run to a tick and listed for a viewer's label.
-use crate::counted;
 use labels::Bits;
+use load_calls::counted;
 use view::view;
 ghost use mathlib.Core.Path.{_≡_};
 ghost use Rattle.model.specs.Record.{lent};
@@ -20,8 +20,5 @@ pub extern "C" fn jennydusk_view(
 {
     let viewed = view(label, tick, text, words, labels, out);
     let outcome = viewed.outcome;
-    let number = outcome.number() as u64;
-    let value = viewed.value as u64;
-    let bytes = viewed.bytes as u64;
-    counted(number, value + bytes)
+    counted(outcome.number(), viewed.value + viewed.bytes as u32)
 }

@@ -1,6 +1,5 @@
 -- `jennydusk::jennydusk_load` meets its contract. The first test is the definition's; then the answer of load is handed on.
 -- Assumes nothing.
-use mathlib.Core.Path.{refl}
 use borrow.Author.Needs.{needs}
 use Rattle.model.specs.Record.{lent}
 use Rattle.encoder.specs.Places.{span}
@@ -27,20 +26,8 @@ returns c =
 load-requires : tie.Need-load-requires
 load-requires c κs = search needs
 
-number-requires : tie.Need-number-requires
-number-requires c κs = search needs
-
-cast-number : tie.Need-cast-number
-cast-number c = search needs
-
-cast-line : tie.Need-cast-line
-cast-line c = search needs
-
-keep-requires : tie.Need-keep-requires
-keep-requires c κs = search needs
-
-counted-requires : tie.Need-counted-requires
-counted-requires c κs = search needs
+after-loading-requires : tie.Need-after-loading-requires
+after-loading-requires c κs = search needs
 
 same-length-2 : tie.Need-same-length-2
 same-length-2 c = search needs
@@ -54,16 +41,15 @@ same-length-4 c = search needs
 returns-2 : tie.Need-returns-2
 unfolding loadCall
 returns-2 c =
-    let kept = c .before .before .before in
-    let judged = kept .before .before .before in
-    let loading = judged .before .before .before .before .before .before in
+    let told = c .before .before in
+    let loading = told .before .before .before .before .before .before in
     let long = loading .before .before .before in
     let start = long .before .before .before .before .before .before .before in
     let buffer = start .args .«record» .now in
     let memory = lent (start .args .words .now) (start .args .labels .now) in
     when-long (untouched buffer memory) span buffer (long .before .is-short .ensures) (long .if1 .left)
-    (was-loaded (start .args .text .now) memory buffer (loading .load .result) (loading .load .ensures) (judged .number .ensures)
-    refl (kept .keep .ensures) (c .counted .ensures))
+    (was-loaded (start .args .text .now) memory buffer (loading .load .result) (loading .load .ensures)
+    (told .after-loading .ensures _ _))
 
 pub jennydusk-load-spec : {M : Type 1} → statement M
 jennydusk-load-spec =
@@ -73,11 +59,7 @@ jennydusk-load-spec =
     same-length
     returns
     load-requires
-    number-requires
-    cast-number
-    cast-line
-    keep-requires
-    counted-requires
+    after-loading-requires
     same-length-2
     same-length-3
     same-length-4

@@ -28,21 +28,14 @@ returns c =
 certify-requires : tie.Need-certify-requires
 certify-requires c κs = search needs
 
-number-requires : tie.Need-number-requires
-number-requires c κs = search needs
-
-cast-number : tie.Need-cast-number
-cast-number c = search needs
-
-cast-line : tie.Need-cast-line
-cast-line c = search needs
-
 keep-certificate-requires : tie.Need-keep-certificate-requires
 keep-certificate-requires c κs =
-    let certified = c .before .before .before .before .before .before .before .before in
-    let long = certified .before .before .before in
+    let long = c .before .before .before .before .before .before .before .before .before in
     let start = long .before .before .before .before .before .before .before in
     is-long certificateSpan (start .args .certificate .now) (long .before .is-short .ensures) (long .if1 .left)
+
+number-requires : tie.Need-number-requires
+number-requires c κs = search needs
 
 counted-requires : tie.Need-counted-requires
 counted-requires c κs = search needs
@@ -59,16 +52,15 @@ same-length-4 c = search needs
 returns-2 : tie.Need-returns-2
 unfolding certifyCall
 returns-2 c =
-    let kept = c .before .before .before in
-    let judged = kept .before .before .before in
-    let certified = judged .before .before .before .before .before .before in
+    let kept = c .before .before .before .before in
+    let certified = kept .before .before .before .before .before .before .before in
     let long = certified .before .before .before in
     let start = long .before .before .before .before .before .before .before in
     let buffer = start .args .certificate .now in
     let memory = lent (start .args .words .now) (start .args .labels .now) in
     when-long (untouched buffer memory) certificateSpan buffer (long .before .is-short .ensures) (long .if1 .left)
     (was-certified (start .args .label) (start .args .text .now) memory buffer (certified .certify .result)
-    (certified .certify .ensures) (judged .number .ensures) refl (kept .keep-certificate .ensures) (c .counted .ensures))
+    (certified .certify .ensures) (c .before .number .ensures) refl (kept .keep-certificate .ensures) (c .counted .ensures))
 
 pub jennydusk-certify-spec : {M : Type 1} → statement M
 jennydusk-certify-spec =
@@ -78,10 +70,8 @@ jennydusk-certify-spec =
     same-length
     returns
     certify-requires
-    number-requires
-    cast-number
-    cast-line
     keep-certificate-requires
+    number-requires
     counted-requires
     same-length-2
     same-length-3

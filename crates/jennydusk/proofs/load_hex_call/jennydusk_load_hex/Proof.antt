@@ -1,7 +1,6 @@
 -- `jennydusk::load_hex_call::jennydusk_load_hex` meets its contract. The first test is the definition's; then the answer of
 -- load is handed on.
 -- Assumes nothing.
-use mathlib.Core.Path.{refl}
 use borrow.Author.Needs.{needs}
 use Rattle.model.specs.Record.{lent}
 use Rattle.encoder.specs.Places.{span}
@@ -28,14 +27,8 @@ returns c =
 load-hex-requires : tie.Need-load-hex-requires
 load-hex-requires c κs = search needs
 
-keep-requires : tie.Need-keep-requires
-keep-requires c κs = search needs
-
-number-requires : tie.Need-number-requires
-number-requires c κs = search needs
-
-cast-result : tie.Need-cast-result
-cast-result c = search needs
+after-loading-hex-requires : tie.Need-after-loading-hex-requires
+after-loading-hex-requires c κs = search needs
 
 same-length-2 : tie.Need-same-length-2
 same-length-2 c = search needs
@@ -49,15 +42,15 @@ same-length-4 c = search needs
 returns-2 : tie.Need-returns-2
 unfolding loadHexCall
 returns-2 c =
-    let kept = c .before .before .before in
-    let loading = kept .before .before .before .before .before .before .before in
+    let told = c .before .before in
+    let loading = told .before .before .before .before .before .before .before in
     let long = loading .before .before .before in
     let given = long .before .before .before .before .before .before .before .before .args in
     let buffer = given .«record» .now in
     let memory = lent (given .words .now) (given .labels .now) in
     when-long (untouchedLine buffer memory (given .line .now)) span buffer (long .before .is-short .ensures) (long .if1 .left)
     (was-loaded-hex (given .text .now) (given .hex .now) (given .label) memory buffer (loading .load-hex .result)
-    (loading .load-hex .ensures) (c .number .ensures) refl (kept .keep .ensures))
+    (loading .load-hex .ensures) (told .after-loading-hex .ensures _ _))
 
 pub jennydusk-load-hex-spec : {M : Type 1} → statement M
 jennydusk-load-hex-spec =
@@ -67,9 +60,7 @@ jennydusk-load-hex-spec =
     same-length
     returns
     load-hex-requires
-    keep-requires
-    number-requires
-    cast-result
+    after-loading-hex-requires
     same-length-2
     same-length-3
     same-length-4

@@ -3,7 +3,7 @@
 -- Assumes nothing.
 use mathlib.Core.Path.{refl}
 use borrow.Author.Needs.{needs}
-use Rattle.causes.proofs.Numbers.{small-number}
+use native.Mathlib.Omega.{arith}
 use Rattle.model.specs.Record.{Bank, lent}
 use Rattle.machine_record.specs.Struct.{recordOf}
 use Rattle.decoder.specs.Held.{machineIn}
@@ -60,18 +60,19 @@ print-for-requires c κs = search needs
 number-requires : tie.Need-number-requires
 number-requires c κs = search needs
 
-cast-number : tie.Need-cast-number
-cast-number c = search needs
+cast-counted : tie.Need-cast-counted
+cast-counted c =
+    let written = c .before .before .before .before in
+    let reading = written .before .before .before .before .before in
+    let start = reading .before .before .before .before .before .before .before in
+    omega (
+      arith,
+      small-length (start .args .label) (recordOf (reading .read .result .machine)) (memory start) (start .args .out .now)
+          (written .print-for .result) _ (written .print-for .ensures),
+    )
 
 counted-requires : tie.Need-counted-requires
-counted-requires c κs =
-    let written = c .before .before .before in
-    let reading = written .before .before .before .before .before in
-    let start = reading .before .before .before .before .before .before .before in (
-      rw (c .number .ensures) (small-number (written .print-for .result .outcome)),
-      small-length (start .args .label) (recordOf (reading .read .result .machine)) (memory start)
-          (start .args .out .now) (written .print-for .result) _ (written .print-for .ensures),
-    )
+counted-requires c κs = search needs
 
 same-length : tie.Need-same-length
 same-length c = search needs
@@ -79,7 +80,7 @@ same-length c = search needs
 returns-3 : tie.Need-returns-3
 unfolding printForCall reading.read
 returns-3 c =
-    let written = c .before .before .before .before in
+    let written = c .before .before .before .before .before in
     let found = written .before .before .before in
     let reading = found .before .before in
     let long = reading .before in
@@ -89,7 +90,7 @@ returns-3 c =
     when-long (unwritten output) span buffer (long .before .is-short .ensures) (long .if1 .left)
     (was-printed (start .args .label) (memory start) output (reading .read .result) (machineIn buffer)
     (written .print-for .result) (reading .read .ensures) (found .enum-told2 .given .1) (written .print-for .ensures)
-    (c .before .number .ensures) refl (c .counted .ensures))
+    (c .before .before .number .ensures) refl (c .counted .ensures))
 
 pub jennydusk-print-for-spec : {M : Type 1} → statement M
 jennydusk-print-for-spec =
@@ -104,7 +105,7 @@ jennydusk-print-for-spec =
     enum-told-2
     print-for-requires
     number-requires
-    cast-number
+    cast-counted
     counted-requires
     same-length
     returns-3)

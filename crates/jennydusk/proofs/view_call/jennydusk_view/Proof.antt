@@ -1,10 +1,9 @@
 -- `jennydusk::view_call::jennydusk_view` meets its contract: the answer of view is handed on.
 -- Assumes nothing.
-use Prim.Native.Nat.{_+_, _^_, _≤_}
+use Prim.Native.Nat.{_+_, _^_, _<_}
 use mathlib.Core.Path.{refl}
 use native.Mathlib.Omega.{arith}
 use borrow.Author.Needs.{needs}
-use Rattle.causes.proofs.Numbers.{small-number}
 use Rattle.model.specs.Record.{Bank, lent}
 use Rattle.jennydusk.proofs.Length.{view-most}
 use Rattle.jennydusk.proofs.Laws.{was-viewed}
@@ -19,7 +18,7 @@ abbrev memory : tie.After-view → Bank
 memory c = lent (start c .args .words .now) (start c .args .labels .now)
 
 -- What the view counts fits an answer.
-few : (c : tie.After-view) → c .view .result .value + c .view .result .bytes ≤ 2 ^ 32
+few : (c : tie.After-view) → c .view .result .value + c .view .result .bytes < 2 ^ 32
 few c =
     let asked = start c .args in
     view-most (asked .label) (asked .tick) (asked .text .now) (memory c) (asked .out .now) _ (c .view .ensures) (search needs)
@@ -30,19 +29,14 @@ view-requires c κs = search needs
 number-requires : tie.Need-number-requires
 number-requires c κs = search needs
 
-cast-number : tie.Need-cast-number
-cast-number c = search needs
-
-cast-value : tie.Need-cast-value
-cast-value c = search needs
+cast-counted : tie.Need-cast-counted
+cast-counted c = omega (arith, few (c .before .before .before .before .before .before .before .before))
 
 add-counted : tie.Need-add-counted
-add-counted c = let n = few (c .before .before .before .before .before .before .before .before) in omega arith
+add-counted c = omega (arith, few (c .before .before .before .before .before .before .before .before .before))
 
 counted-requires : tie.Need-counted-requires
-counted-requires c κs =
-    let viewed = c .before .before .before .before .before .before .before .before in
-    (rw (c .before .number .ensures) (small-number (viewed .view .result .outcome)), few viewed)
+counted-requires c κs = search needs
 
 same-length : tie.Need-same-length
 same-length c = search needs
@@ -55,7 +49,7 @@ same-length-3 c = search needs
 
 returns : tie.Need-returns
 returns c =
-    let numbered = c .before .before in
+    let numbered = c .before .before .before in
     let viewed = numbered .before .before .before .before .before .before .before in
     let asked = start viewed .args in
     was-viewed (asked .label) (asked .tick) (asked .text .now) (memory viewed) (asked .out .now) _ (viewed .view .ensures)
@@ -67,8 +61,7 @@ jennydusk-view-spec =
     (tie.spec
     view-requires
     number-requires
-    cast-number
-    cast-value
+    cast-counted
     add-counted
     counted-requires
     same-length
