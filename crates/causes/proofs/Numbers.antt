@@ -1,6 +1,6 @@
 -- The number of an outcome forgets nothing: equal numbers come from equal cases.
 -- Assumes nothing.
-use Prim.Native.Nat.{ℕ, _≤_}
+use Prim.Native.Nat.{ℕ}
 use mathlib.Core.Path.{_≡_, refl, sym, ap, _∙_}
 use mathlib.Core.Bool.{true, cond, false≢true}
 use native.Mathlib.Omega.{arith}
@@ -49,23 +49,6 @@ outcome-of-number (Refused GatePair) = refl
 -- No two outcomes have one number.
 pub same-outcome : (o o′ : Outcome) → numberOf o ≡ numberOf o′ → o ≡ o′
 same-outcome o o′ e = sym (outcome-of-number o) ∙ ap outcomeOf e ∙ outcome-of-number o′
-
--- Every number is small.
-pub small-number : (o : Outcome) → numberOf o ≤ 255
-small-number Done = omega arith
-small-number (Refused TextLength) = omega arith
-small-number (Refused MalformedLine) = omega arith
-small-number (Refused OutOfRange) = omega arith
-small-number (Refused OutOfOrder) = omega arith
-small-number (Refused InvalidPair) = omega arith
-small-number (Refused ShortMemory) = omega arith
-small-number (Refused IllFormed) = omega arith
-small-number (Refused ShortOutput) = omega arith
-small-number (Refused ZeroRegister) = omega arith
-small-number (Refused TickAboveLimit) = omega arith
-small-number (Refused MalformedRecord) = omega arith
-small-number (Refused MisplacedByte) = omega arith
-small-number (Refused GatePair) = omega arith
 
 -- No refusal is done.
 pub done-or-refused {ℓ} : {P : Type ℓ} {o : Outcome} {c : Cause} → o ≡ Done → o ≡ Refused c → P
