@@ -10,6 +10,7 @@ use mathlib.Core.Bool.{Bool, true, false, cond}
 use mathlib.Core.List.{List, [], _++_}
 use lib.Dec.{eqb}
 use lib.ListN.{length, drop, getD}
+use Rattle.labels.specs.Label.{labelCount}
 use Rattle.model.specs.declared.Pair.{Pair}
 use Rattle.model.specs.declared.CallGate.{CallGate}
 use Rattle.model.specs.declared.Call.{Call}
@@ -22,7 +23,7 @@ use Rattle.model.specs.WellFormed.{noGate}
 use Rattle.encoder.specs.Places as at
 use Rattle.encoder.specs.Layout.{kindOf, gatesWords, wordsOf, holding}
 use Rattle.encoder.proofs.Laws.{length-words}
-use Rattle.decoder.specs.Held.{wordAt, low32, byteCount, low8, pairFrom, callFrom, callIn, gateIn, tabulate, fixedIn, controlIn, registersIn, recordIn, begins, holds, nothing, machineIn}
+use Rattle.decoder.specs.Held.{wordAt, low32, byteCount, low8, lowLabel, pairFrom, callFrom, callIn, gateIn, tabulate, fixedIn, controlIn, registersIn, recordIn, begins, holds, nothing, machineIn}
 use Rattle.model.specs.Inner.Typed.{PairTyped, GateTyped, CallTyped, FixedTyped, ControlTyped, RegistersTyped, MachineTyped}
 use Rattle.decoder.proofs.Lists.{elements, tabulate-same, length-tabulate, getD-tabulate, begins-itself, begun}
 
@@ -60,7 +61,7 @@ abbrev cutBank : Bank → Bank
 cutBank b =
     record {
       values = tabulate (λ (k : ℕ). low32 (getD (b .values) k 0)) registerCount;
-      labels = tabulate (λ (k : ℕ). low8 (getD (b .labels) k 0)) registerCount;
+      labels = tabulate (λ (k : ℕ). lowLabel (getD (b .labels) k 0)) registerCount;
     }
 
 abbrev cut : Machine → Machine
@@ -134,7 +135,7 @@ bank-same b t =
     let vs : tabulate (λ (k : ℕ). low32 (getD (b .values) k 0)) registerCount ≡ b .values
     = tabulate-same _ (λ (k : ℕ). getD (b .values) k 0) registerCount (λ k h. mod-eq-of-lt (t .numbers .values k h))
     ∙ elements 0 (b .values) (t .values) in
-    let ls : tabulate (λ (k : ℕ). low8 (getD (b .labels) k 0)) registerCount ≡ b .labels
+    let ls : tabulate (λ (k : ℕ). lowLabel (getD (b .labels) k 0)) registerCount ≡ b .labels
     = tabulate-same _ (λ (k : ℕ). getD (b .labels) k 0) registerCount (λ k h. mod-eq-of-lt (t .numbers .labels k h))
     ∙ elements 0 (b .labels) (t .labels) in
     rw (vs, ls) refl
@@ -147,8 +148,11 @@ low32-lt x = mod-lt x (omega arith)
 low8-lt : (x : ℕ) → low8 x < byteCount
 low8-lt x = mod-lt x (omega arith)
 
+low-label-lt : (x : ℕ) → lowLabel x < labelCount
+low-label-lt x = mod-lt x (omega arith)
+
 pair-typed : (p t : ℕ) → PairTyped (pairFrom p t)
-pair-typed p t = record { pc = low8-lt p; timing = low8-lt t }
+pair-typed p t = record { pc = low-label-lt p; timing = low-label-lt t }
 
 gate-typed : (b : List ℕ) (i : ℕ) → GateTyped (gateIn b i)
 unfolding gateIn
@@ -201,7 +205,7 @@ bank-typed b =
       numbers =
           record {
             values = λ k h. rw (getD-tabulate {A = ℕ} _ registerCount k 0 h) (low32-lt _);
-            labels = λ k h. rw (getD-tabulate {A = ℕ} _ registerCount k 0 h) (low8-lt _);
+            labels = λ k h. rw (getD-tabulate {A = ℕ} _ registerCount k 0 h) (low-label-lt _);
           };
     }
 

@@ -6,6 +6,7 @@ use mathlib.Core.Bool.{Bool, true, false, _&&_, cond}
 use mathlib.Core.List.{List, [], _∷_, _++_}
 use lib.Dec.{eqb}
 use lib.ListN.{getD}
+use Rattle.labels.specs.Label.{labelCount}
 use Rattle.model.specs.declared.Pair.{Pair}
 use Rattle.model.specs.declared.CallGate.{CallGate}
 use Rattle.model.specs.declared.Fixed.{Fixed}
@@ -27,7 +28,7 @@ wordAt b i = getD b i 0
 abbrev pub low32 : ℕ → ℕ
 low32 x = x % valueCount
 
--- Bytes are below this number. Labels, ends and whys are bytes.
+-- Bytes are below this number. Ends and whys are bytes.
 abbrev pub byteCount : ℕ
 byteCount = 2 ^ 8
 
@@ -35,9 +36,13 @@ byteCount = 2 ^ 8
 abbrev pub low8 : ℕ → ℕ
 low8 x = x % byteCount
 
+-- The label in the low bits of a word.
+abbrev pub lowLabel : ℕ → ℕ
+lowLabel x = x % labelCount
+
 -- A pair from two words.
 abbrev pub pairFrom : ℕ → ℕ → Pair
-pairFrom p t = record { pc = low8 p; timing = low8 t }
+pairFrom p t = record { pc = lowLabel p; timing = lowLabel t }
 
 -- A call from its kind, return pc, pair and end tick. An unknown kind gives no call.
 unfoldable pub callFrom : ℕ → ℕ → Pair → ℕ → Call
@@ -91,7 +96,7 @@ unfoldable pub registersIn : List ℕ → Bank
 registersIn b =
     record {
       values = tabulate (λ (k : ℕ). low32 (wordAt b (at.firstValue + k))) registerCount;
-      labels = tabulate (λ (k : ℕ). low8 (wordAt b (at.firstLabel + k))) registerCount;
+      labels = tabulate (λ (k : ℕ). lowLabel (wordAt b (at.firstLabel + k))) registerCount;
     }
 
 -- The record that the words give if each is cut to what its field can hold.

@@ -2,6 +2,7 @@
 use encoder::places;
 use encoder::places::MOST_GATES;
 use labels::Bits;
+use labels::LABEL_COUNT;
 use machine_record::Machine;
 use model::Call;
 use model::CallGate;
@@ -14,7 +15,7 @@ ghost use mathlib.Core.Path.{_≡_};
 ghost use Prim.Native.Nat.{_<_};
 ghost use Rattle.encoder.specs.Places.{span};
 ghost use Rattle.machine_record.specs.Struct.{recordOf};
-ghost use Rattle.decoder.specs.Held.{wordAt, low32, low8, pairFrom, callFrom, callIn, gateIn, fixedIn, controlIn, registersIn, recordIn};
+ghost use Rattle.decoder.specs.Held.{wordAt, low32, low8, lowLabel, pairFrom, callFrom, callIn, gateIn, fixedIn, controlIn, registersIn, recordIn};
 
 // Bytes are below this number.
 const BYTE_COUNT: u64 = 256;
@@ -40,13 +41,20 @@ fn low8(x: u64) -> u8
     (x % BYTE_COUNT) as u8
 }
 
+// The label in the low bits of a word.
+fn low_label(x: u64) -> Bits
+    ensures { λ r. ⌜ r ≡ lowLabel x ⌝ }
+{
+    (x % LABEL_COUNT as u64) as Bits
+}
+
 // A pair from two words.
 fn pair_from(pc: u64, timing: u64) -> Pair
     ensures { λ r. ⌜ r ≡ pairFrom pc timing ⌝ }
 {
     Pair {
-        pc: low8(pc),
-        timing: low8(timing),
+        pc: low_label(pc),
+        timing: low_label(timing),
     }
 }
 
@@ -158,7 +166,7 @@ fn labels_in(buffer: &[u64]) -> [Bits; REGISTER_COUNT]
     let mut labels: [Bits; REGISTER_COUNT] = [0; REGISTER_COUNT];
     let mut k = 0;
     while k < REGISTER_COUNT {
-        labels[k] = low8(word(buffer, places::FIRST_LABEL + k));
+        labels[k] = low_label(word(buffer, places::FIRST_LABEL + k));
         k += 1;
     }
     labels

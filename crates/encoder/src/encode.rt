@@ -34,11 +34,18 @@ fn put32(x: u32, buffer: &mut [u64], at: usize)
     put(x as u64, buffer, at);
 }
 
-// Puts a label or another number of 8 bits.
+// Puts a number of 8 bits.
 fn put8(x: u8, buffer: &mut [u64], at: usize)
     ensures { λ r. ⌜ now (buffer .exit) ≡ set (now (buffer .entry)) at x ⌝ }
 {
     put(x as u64, buffer, at);
+}
+
+// Puts a label.
+fn put_label(label: Bits, buffer: &mut [u64], at: usize)
+    ensures { λ r. ⌜ now (buffer .exit) ≡ set (now (buffer .entry)) at label ⌝ }
+{
+    put(label as u64, buffer, at);
 }
 
 // Puts the five words of a call.
@@ -61,8 +68,8 @@ fn put_kept(kind: u64, back: u32, pair: Pair, tick: u64, buffer: &mut [u64], at:
 {
     put(kind, buffer, at + places::CALL_KIND);
     put32(back, buffer, at + places::CALL_RETURN_PC);
-    put8(pair.pc, buffer, at + places::CALL_PC_LABEL);
-    put8(pair.timing, buffer, at + places::CALL_TIMING_LABEL);
+    put_label(pair.pc, buffer, at + places::CALL_PC_LABEL);
+    put_label(pair.timing, buffer, at + places::CALL_TIMING_LABEL);
     put(tick, buffer, at + places::CALL_END_TICK);
 }
 
@@ -72,8 +79,8 @@ fn put_gate(gate: CallGate, buffer: &mut [u64], at: usize)
     ensures { λ r. ⌜ now (buffer .exit) ≡ sets (now (buffer .entry)) at (gateWords gate) ⌝ }
 {
     put32(gate.entry, buffer, at + places::GATE_ENTRY);
-    put8(gate.pair.pc, buffer, at + places::GATE_PC_LABEL);
-    put8(gate.pair.timing, buffer, at + places::GATE_TIMING_LABEL);
+    put_label(gate.pair.pc, buffer, at + places::GATE_PC_LABEL);
+    put_label(gate.pair.timing, buffer, at + places::GATE_TIMING_LABEL);
 }
 
 // Puts the gates.
@@ -106,8 +113,8 @@ fn put_control(control: Control, buffer: &mut [u64])
     let first = control.first;
     let second = control.second;
     put32(control.pc, buffer, places::PC);
-    put8(control.pair.pc, buffer, places::PC_LABEL);
-    put8(control.pair.timing, buffer, places::TIMING_LABEL);
+    put_label(control.pair.pc, buffer, places::PC_LABEL);
+    put_label(control.pair.timing, buffer, places::TIMING_LABEL);
     put32(control.clock, buffer, places::CLOCK);
     put_call(first, buffer, places::FIRST_CALL);
     put_call(second, buffer, places::SECOND_CALL);
@@ -132,7 +139,7 @@ fn put_labels(labels: [Bits; REGISTER_COUNT], buffer: &mut [u64])
 {
     let mut k = 0;
     while k < REGISTER_COUNT {
-        put8(labels[k], buffer, places::FIRST_LABEL + k);
+        put_label(labels[k], buffer, places::FIRST_LABEL + k);
         k += 1;
     }
 }

@@ -6,13 +6,13 @@ use native.Mathlib.Omega.{arith}
 use borrow.Author.Needs.{needs}
 use Rattle.model.specs.Numbers.{registerCount}
 use Rattle.encoder.specs.Places.{firstLabel}
-use Rattle.decoder.specs.Held.{registersIn, wordAt, low8}
+use Rattle.decoder.specs.Held.{registersIn, wordAt, lowLabel}
 use Rattle.decoder.proofs.Lists.{Filled, filled-none, filled-more, filled-all}
 use Rattle.decoder.proofs.decode.labels_in.Statement.{statement}
 use Rattle.decoder.proofs.decode.labels_in.Tie as tie
 
 abbrev Inv-loop : tie.InvT-loop
-Inv-loop buffer labels₀ k₀ labels k = Filled (λ (j : ℕ). low8 (wordAt buffer (firstLabel + j))) registerCount labels k
+Inv-loop buffer labels₀ k₀ labels k = Filled (λ (j : ℕ). lowLabel (wordAt buffer (firstLabel + j))) registerCount labels k
 
 abbrev μ-loop : tie.MeasureT-loop
 μ-loop buffer labels₀ k₀ labels k = registerCount - k
@@ -26,8 +26,8 @@ add-word c = omega arith
 word-requires : tie.Need-word-requires Inv-loop μ-loop
 word-requires c κs = search needs
 
-low8-requires : tie.Need-low8-requires Inv-loop μ-loop
-low8-requires c κs = search needs
+low-label-requires : tie.Need-low-label-requires Inv-loop μ-loop
+low-label-requires c κs = search needs
 
 array-write-labels : tie.Need-array-write-labels Inv-loop μ-loop
 array-write-labels c = omega (arith, c .before .before .before .loop .inv .whole)
@@ -39,7 +39,7 @@ loop-less : tie.Need-loop-less Inv-loop μ-loop
 loop-less c = omega arith
 
 loop-again : tie.Need-loop-again Inv-loop μ-loop
-loop-again c = filled-more (c .before .before .before .loop .inv) (c .before .before .loop-test .taken) (c .low8 .ensures ∙ ap low8 (c .before .word .ensures))
+loop-again c = filled-more (c .before .before .before .loop .inv) (c .before .before .loop-test .taken) (c .low-label .ensures ∙ ap lowLabel (c .before .word .ensures))
 
 returns : tie.Need-returns Inv-loop μ-loop
 unfolding registersIn
@@ -54,7 +54,7 @@ labels-in-spec =
     loop-holds
     add-word
     word-requires
-    low8-requires
+    low-label-requires
     array-write-labels
     add-k
     loop-less

@@ -5,15 +5,15 @@ use borrow.Author.Needs.{needs}
 use Rattle.decoder.proofs.decode.pair_from.Statement.{statement}
 use Rattle.decoder.proofs.decode.pair_from.Tie as tie
 
-low8-requires : tie.Need-low8-requires
-low8-requires c κs = search needs
+low-label-requires : tie.Need-low-label-requires
+low-label-requires c κs = search needs
 
-low8-requires-2 : tie.Need-low8-requires-2
-low8-requires-2 c κs = search needs
+low-label-requires-2 : tie.Need-low-label-requires-2
+low-label-requires-2 c κs = search needs
 
 returns : tie.Need-returns
 returns c =
-    rw (c .before .low8 .ensures, c .low82 .ensures) refl
+    rw (c .before .low-label .ensures, c .low-label2 .ensures) refl
 
 pub pair-from-spec : {M : Type 1} → statement M
-pair-from-spec = tie.close (tie.spec low8-requires low8-requires-2 returns)
+pair-from-spec = tie.close (tie.spec low-label-requires low-label-requires-2 returns)

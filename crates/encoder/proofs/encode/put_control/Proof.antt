@@ -8,11 +8,11 @@ use Rattle.encoder.proofs.encode.put_control.Tie as tie
 put32-requires : tie.Need-put32-requires
 put32-requires c κs = search needs
 
-put8-requires : tie.Need-put8-requires
-put8-requires c κs = search needs
+put-label-requires : tie.Need-put-label-requires
+put-label-requires c κs = search needs
 
-put8-requires-2 : tie.Need-put8-requires-2
-put8-requires-2 c κs = search needs
+put-label-requires-2 : tie.Need-put-label-requires-2
+put-label-requires-2 c κs = search needs
 
 put32-requires-2 : tie.Need-put32-requires-2
 put32-requires-2 c κs = search needs
@@ -23,11 +23,11 @@ put-call-requires c κs = search needs
 put-call-requires-2 : tie.Need-put-call-requires-2
 put-call-requires-2 c κs = search needs
 
-put8-requires-3 : tie.Need-put8-requires-3
-put8-requires-3 c κs = search needs
+put8-requires : tie.Need-put8-requires
+put8-requires c κs = search needs
 
-put8-requires-4 : tie.Need-put8-requires-4
-put8-requires-4 c κs = search needs
+put8-requires-2 : tie.Need-put8-requires-2
+put8-requires-2 c κs = search needs
 
 same-length : tie.Need-same-length
 same-length c = search needs
@@ -41,19 +41,19 @@ returns c =
     let back20 = back16 .before .before .before .before in
     let back24 = back20 .before .before .before .before in
     let back28 = back24 .before .before .before .before in
-    rw (c .before .before .put84 .ensures, back4 .before .before .put83 .ensures, back8 .before .before .put-call2 .ensures, back12 .before .before .put-call .ensures, back16 .before .before .put322 .ensures, back20 .before .before .put82 .ensures, back24 .before .before .put8 .ensures, back28 .before .before .put32 .ensures) refl
+    rw (c .before .before .put82 .ensures, back4 .before .before .put8 .ensures, back8 .before .before .put-call2 .ensures, back12 .before .before .put-call .ensures, back16 .before .before .put322 .ensures, back20 .before .before .put-label2 .ensures, back24 .before .before .put-label .ensures, back28 .before .before .put32 .ensures) refl
 
 pub put-control-spec : {M : Type 1} → statement M
 put-control-spec =
     tie.close
     (tie.spec
     put32-requires
-    put8-requires
-    put8-requires-2
+    put-label-requires
+    put-label-requires-2
     put32-requires-2
     put-call-requires
     put-call-requires-2
-    put8-requires-3
-    put8-requires-4
+    put8-requires
+    put8-requires-2
     same-length
     returns)

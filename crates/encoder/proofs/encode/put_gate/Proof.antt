@@ -14,17 +14,17 @@ add-put32 c = search needs
 put32-requires : tie.Need-put32-requires
 put32-requires c κs = search needs
 
-add-put8 : tie.Need-add-put8
-add-put8 c = search needs
+add-put-label : tie.Need-add-put-label
+add-put-label c = search needs
 
-put8-requires : tie.Need-put8-requires
-put8-requires c κs = search needs
+put-label-requires : tie.Need-put-label-requires
+put-label-requires c κs = search needs
 
-add-put8-2 : tie.Need-add-put8-2
-add-put8-2 c = search needs
+add-put-label-2 : tie.Need-add-put-label-2
+add-put-label-2 c = search needs
 
-put8-requires-2 : tie.Need-put8-requires-2
-put8-requires-2 c κs = search needs
+put-label-requires-2 : tie.Need-put-label-requires-2
+put-label-requires-2 c κs = search needs
 
 same-length : tie.Need-same-length
 same-length c = search needs
@@ -35,9 +35,9 @@ returns c =
     let second = third .before .before .before .before in
     let first = second .before .before .before .before in
     let at = first .before .before .before .args .at in
-    rw (third .put82 .ensures, second .put8 .ensures, first .put32 .ensures, add-zero at, add-one at, two at) refl
+    rw (third .put-label2 .ensures, second .put-label .ensures, first .put32 .ensures, add-zero at, add-one at, two at) refl
 
 pub put-gate-spec : {M : Type 1} → statement M
 put-gate-spec =
     tie.close
-    (tie.spec add-put32 put32-requires add-put8 put8-requires add-put8-2 put8-requires-2 same-length returns)
+    (tie.spec add-put32 put32-requires add-put-label put-label-requires add-put-label-2 put-label-requires-2 same-length returns)

@@ -20,17 +20,17 @@ add-put32 c = search needs
 put32-requires : tie.Need-put32-requires
 put32-requires c κs = search needs
 
-add-put8 : tie.Need-add-put8
-add-put8 c = search needs
+add-put-label : tie.Need-add-put-label
+add-put-label c = search needs
 
-put8-requires : tie.Need-put8-requires
-put8-requires c κs = search needs
+put-label-requires : tie.Need-put-label-requires
+put-label-requires c κs = search needs
 
-add-put8-2 : tie.Need-add-put8-2
-add-put8-2 c = search needs
+add-put-label-2 : tie.Need-add-put-label-2
+add-put-label-2 c = search needs
 
-put8-requires-2 : tie.Need-put8-requires-2
-put8-requires-2 c κs = search needs
+put-label-requires-2 : tie.Need-put-label-requires-2
+put-label-requires-2 c κs = search needs
 
 add-put-2 : tie.Need-add-put-2
 add-put-2 c = search needs
@@ -50,7 +50,7 @@ returns c =
     let first = second .before .before .before .before in
     let at = first .before .before .before .args .at in
     rw
-    (fifth .put2 .ensures, fourth .put82 .ensures, third .put8 .ensures, second .put32 .ensures, first .put .ensures, add-zero at, add-one at, two at, three at, four at)
+    (fifth .put2 .ensures, fourth .put-label2 .ensures, third .put-label .ensures, second .put32 .ensures, first .put .ensures, add-zero at, add-one at, two at, three at, four at)
     refl
 
 pub put-kept-spec : {M : Type 1} → statement M
@@ -61,10 +61,10 @@ put-kept-spec =
     put-requires
     add-put32
     put32-requires
-    add-put8
-    put8-requires
-    add-put8-2
-    put8-requires-2
+    add-put-label
+    put-label-requires
+    add-put-label-2
+    put-label-requires-2
     add-put-2
     put-requires-2
     same-length

@@ -24,14 +24,14 @@ all-registers c = search needs
 loop-holds : tie.Need-loop-holds Inv-loop μ-loop
 loop-holds c = put-none firstLabel _ _ ones
 
-array-read-put8 : tie.Need-array-read-put8 Inv-loop μ-loop
-array-read-put8 c = omega arith
+array-read-put-label : tie.Need-array-read-put-label Inv-loop μ-loop
+array-read-put-label c = omega arith
 
-add-put8 : tie.Need-add-put8 Inv-loop μ-loop
-add-put8 c = omega arith
+add-put-label : tie.Need-add-put-label Inv-loop μ-loop
+add-put-label c = omega arith
 
-put8-requires : tie.Need-put8-requires Inv-loop μ-loop
-put8-requires c κs = search needs
+put-label-requires : tie.Need-put-label-requires Inv-loop μ-loop
+put-label-requires c κs = search needs
 
 add-k : tie.Need-add-k Inv-loop μ-loop
 add-k c = omega arith
@@ -42,7 +42,7 @@ loop-less c = omega arith
 loop-again : tie.Need-loop-again Inv-loop μ-loop
 loop-again c =
     let head = c .before .before .before .before .before in
-    put-more 0 ones (head .loop .inv) (omega (arith, all-registers (head .before .before))) (omega arith) (c .before .before .put8 .ensures)
+    put-more 0 ones (head .loop .inv) (omega (arith, all-registers (head .before .before))) (omega arith) (c .before .before .put-label .ensures)
 
 same-length : tie.Need-same-length Inv-loop μ-loop
 same-length c = put-length (c .before .loop .inv)
@@ -57,9 +57,9 @@ put-labels-spec =
     Inv-loop
     μ-loop
     loop-holds
-    array-read-put8
-    add-put8
-    put8-requires
+    array-read-put-label
+    add-put-label
+    put-label-requires
     add-k
     loop-less
     loop-again
