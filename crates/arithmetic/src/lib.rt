@@ -1,4 +1,5 @@
 // What the arithmetic ops compute from two registers, and how many ticks they take.
+use model::numbers::VALUE_COUNT;
 ghost use Prim.Native.Nat.{_≤_};
 ghost use mathlib.Core.Path.{_≡_};
 ghost use Rattle.model.specs.Word.{compute, add, subtract, less as lessThan, multiply, divide, remainder as left};
@@ -55,7 +56,7 @@ fn minus(x: u32, y: u32) -> u32
 fn product(x: u32, y: u32) -> u32
     ensures { λ r. ⌜ r ≡ compute multiply x y ⌝ }
 {
-    ((x as u64) * (y as u64) % 4294967296) as u32
+    ((x as u64) * (y as u64) % VALUE_COUNT) as u32
 }
 
 // How often y goes into x.

@@ -11,6 +11,7 @@ use parts::calls::newest;
 use parts::word::index;
 ghost use Prim.Native.Nat.{_≤_};
 ghost use mathlib.Core.Path.{_≡_};
+ghost use Rattle.model.specs.Numbers.{mostGates};
 ghost use Rattle.model.specs.Seen.{within};
 ghost use Rattle.model.specs.Certificate.{leadsWithin};
 ghost use Rattle.certify.specs.Certified.{certificateOf};
@@ -30,7 +31,7 @@ pub(in crate) fn is_within(label: Bits, other: Bits) -> bool
 
 // Whether a gate leads within.
 pub(in crate) fn leads_within(label: Bits, fixed: Fixed) -> bool
-    requires { ⌜ fixed .count ≤ 8 ⌝ }
+    requires { ⌜ fixed .count ≤ mostGates ⌝ }
     ensures { λ r. ⌜ r ≡ leadsWithin label fixed (fixed .count) ⌝ }
 {
     let gates = fixed.gates;

@@ -18,6 +18,7 @@ use writer::write_line;
 ghost use Prim.Native.Nat.{_≤_};
 ghost use mathlib.Core.Path.{_≡_};
 ghost use lib.ListN.{length, take};
+ghost use Rattle.model.specs.Numbers.{mostTicks};
 ghost use Rattle.model.specs.Record.{stateOf, lent};
 ghost use Rattle.model.specs.Certificate.{certifying, certifyAlone};
 ghost use Rattle.machine_record.specs.Struct.{recordOf};
@@ -85,7 +86,7 @@ fn first_break(
 
 // How many steps are left to look at, at the most: of an ended record none is.
 fn steps_left(limit: u32, control: Control) -> u32
-    requires { ⌜ (control .clock ≤ limit) × (limit ≤ 16777216) ⌝ }
+    requires { ⌜ (control .clock ≤ limit) × (limit ≤ mostTicks) ⌝ }
     ensures { λ r. ⌜ r ≡ stepsLeft limit control ⌝ }
 {
     if control.end == 0 {

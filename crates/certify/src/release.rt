@@ -14,6 +14,7 @@ use parts::word::op_of;
 ghost use Prim.Native.Nat.{_≤_};
 ghost use mathlib.Core.Path.{_≡_};
 ghost use lib.ListN.{length};
+ghost use Rattle.model.specs.Numbers.{mostTicks};
 ghost use Rattle.certify.specs.Inner.Release.{relabellingAt, triesWith, releasesWith, hasTime};
 
 // The number of the op that relabels, and its ticks.
@@ -81,7 +82,7 @@ pub(in crate) fn releases(
 
 // Whether a relabelling is carried out, or passes by: the record runs, and neither end tick nor limit bars the op.
 pub(in crate) fn has_time(limit: u32, control: Control) -> bool
-    requires { ⌜ control .clock ≤ 16777216 ⌝ }
+    requires { ⌜ control .clock ≤ mostTicks ⌝ }
     ensures { λ r. ⌜ r ≡ hasTime limit control ⌝ }
 {
     let first = control.first;
