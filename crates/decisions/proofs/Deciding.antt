@@ -24,9 +24,10 @@ use Rattle.parts.specs.declared.stages.Change.the-variants.{Pass, Goto, Stop}
 use Rattle.parts.specs.declared.stages.Decision.{Decision}
 use Rattle.parts.specs.declared.stages.Decision.the-variants.{Spend, Stall, Close, Carry}
 use Rattle.parts.specs.Stages.{changeOf, isCommonOp, fetchesCommon, lateOf, planAt}
-use Rattle.decisions.specs.Inner.Rows.{changeIn, Does, Changes, Decides, InTime}
+use Rattle.changes.specs.Changes.{changeIn, Does, Changes}
+use Rattle.changes.proofs.Calling.{in-upcall, end-tick}
+use Rattle.decisions.specs.Inner.Deciding.{Decides, InTime}
 use Rattle.decisions.proofs.Unknown.{NoneFrom, unknown}
-use Rattle.decisions.proofs.Calling.{in-upcall, end-tick}
 
 -- ---- the time of an upcall
 

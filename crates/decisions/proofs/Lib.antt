@@ -1,5 +1,4 @@
 -- Laws that the functions' proofs cite.
 pub mod Unknown
-pub mod Calling
 pub mod Deciding
 pub mod Limiting

@@ -16,8 +16,8 @@ use Rattle.parts.specs.declared.stages.Change.{Change}
 use Rattle.parts.specs.declared.stages.Decision.{Decision}
 use Rattle.parts.specs.declared.stages.Decision.the-variants.{Spend, Stall, Close, Carry}
 use Rattle.parts.specs.Stages.{changeOf}
-use Rattle.decisions.specs.Inner.Rows.{Ready, Limited}
-use Rattle.decisions.proofs.Calling.{end-tick}
+use Rattle.changes.proofs.Calling.{end-tick}
+use Rattle.decisions.specs.Inner.Deciding.{Ready, Limited}
 
 -- ---- the model's decisions
 

@@ -1,2 +1,2 @@
 -- What the contracts of inner functions cite, which the public promise doesn't.
-pub mod Rows
+pub mod Deciding

@@ -1,11 +1,11 @@
 // The first stage of a step where the hot loop stopped: what is to be done. That is for ops 15 to 22, for failed
 // fetches, for upcalls that close, for stalls and for spent time. Nothing here changes the machine.
-mod calls;
-mod rows;
-
-use calls::call_gate;
-use calls::return_gate;
-use calls::upcall;
+use changes::calls::call_gate;
+use changes::calls::return_gate;
+use changes::calls::upcall;
+use changes::rows::Rule;
+use changes::rows::set_label;
+use changes::rows::set_pair;
 use labels::Bits;
 use model::Fixed;
 use model::numbers::BY_FAILURE;
@@ -21,9 +21,6 @@ use parts::stages::Change;
 use parts::stages::Decision;
 use parts::stages::Reason;
 use parts::word::op_of;
-use rows::Rule;
-use rows::set_label;
-use rows::set_pair;
 ghost use Prim.Native.Nat.{ℕ};
 ghost use mathlib.Core.Path.{_≡_};
 ghost use mathlib.Core.List.{List};
@@ -36,7 +33,7 @@ ghost use Rattle.parts.specs.declared.stages.Reason.the-variants.{Rest};
 ghost use Rattle.parts.specs.Live.{controlOf};
 ghost use Rattle.parts.specs.Stages.{decisionOf, lateOf, planAt, planFor, HasNext, Applies};
 ghost use Rattle.decisions.specs.Decisions.{decided};
-ghost use Rattle.decisions.specs.Inner.Rows.{InTime, Decides, Limited};
+ghost use Rattle.decisions.specs.Inner.Deciding.{InTime, Decides, Limited};
 
 // A change in so many ticks, unless it finishes past the end tick of the upcall.
 fn in_time(live: Live, ticks: u32, change: Change) -> Decision

@@ -1,13 +1,11 @@
--- What single ops and failed fetches decide, as their functions promise it: by the rows of the model's table.
+-- What is decided, as the functions promise it: for an op or a failed fetch, in the time of an upcall, by the limit.
 -- Assumes nothing.
-use Prim.Native.Nat.{ℕ, _+_, _^_, _≤_, _<_}
+use Prim.Native.Nat.{ℕ, _+_, _≤_}
 use mathlib.Core.Path.{_≡_}
-use mathlib.Core.Bool.{true, cond}
+use mathlib.Core.Bool.{true}
 use mathlib.Core.List.{List}
 use Rattle.model.specs.declared.Fixed.{Fixed}
 use Rattle.model.specs.Record.{State, stateFrom, isUpcall}
-use Rattle.model.specs.Word as words
-use Rattle.model.specs.Ops as ops
 use Rattle.model.specs.Step as model
 use Rattle.parts.specs.declared.live.Live.{Live}
 use Rattle.parts.specs.Live.{callOf, controlOf}
@@ -16,28 +14,6 @@ use Rattle.parts.specs.declared.stages.Decision.{Decision}
 use Rattle.parts.specs.declared.stages.Decision.the-variants.{Spend, Stall, Close, Carry}
 use Rattle.parts.specs.declared.stages.Reason.{Reason}
 use Rattle.parts.specs.Stages.{changeOf, decisionOf, HasNext, Fits, Applies}
-use Rattle.decisions.specs.declared.rows.Rule.{Rule}
-use Rattle.decisions.specs.declared.rows.Rule.the-variants.{Raise, Relabel}
-
--- The model's rule that a rule is.
-abbrev pub ruleOf : Rule → words.Rule
-ruleOf Raise = words.raise
-ruleOf Relabel = words.relabel
-
--- What a row's effect changes. The end of an upcall is none of them.
-abbrev pub changeIn : ops.Effect → ops.Change
-changeIn (ops.does change) = change
-changeIn ops.ends = ops.write ops.nothing
-
--- The change is the row's where its check passes, and else nothing.
-abbrev pub Does : ops.Row → Change → Type 0
-Does row r = changeOf r ≡ cond (row .check) (changeIn (row .effect)) (ops.write ops.nothing)
-
--- The change is that of the op in the word w, in every state with this control and these registers. Where there is a
--- next pc, it fits if it is carried out in so many ticks.
-pub record Changes (op : words.Op) (w ticks : ℕ) (fixed : Fixed) (live : Live) (values labels : List ℕ) (r : Change) : Type 0 where
-  pub is : (words marks : List ℕ) → Does (ops.table (stateFrom fixed (controlOf live) values labels words marks) w op) r
-  pub fits : live .pc + 1 < 2 ^ 32 → Fits r live (live .clock + ticks)
 
 -- What it closes is an upcall, and what it carries out takes a tick or more, and in an upcall finishes by its end tick.
 -- This holds whether there is a next pc or not, so that the limit can be looked at in every state.

@@ -1,4 +1,4 @@
--- `decisions::calls::call_gate` meets its contract.
+-- `changes::calls::call_gate` meets its contract.
 -- Assumes nothing.
 use mathlib.Core.Path.{sym, _∙_}
 use borrow.Author.Tests.{lt-ltb, le-ltb}
@@ -6,8 +6,8 @@ use borrow.Author.Needs.{needs}
 use Rattle.model.specs.Ops.{table, mayCallGate}
 use Rattle.model.specs.Record.{valueAt, labelAt}
 use Rattle.parts.proofs.Frames.{newest-is}
-use Rattle.decisions.proofs.calls.call_gate.Statement.{statement}
-use Rattle.decisions.proofs.calls.call_gate.Tie as tie
+use Rattle.changes.proofs.calls.call_gate.Statement.{statement}
+use Rattle.changes.proofs.calls.call_gate.Tie as tie
 
 b-of-requires : tie.Need-b-of-requires
 b-of-requires c κs = search needs

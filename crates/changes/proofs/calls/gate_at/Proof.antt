@@ -1,9 +1,9 @@
--- `decisions::calls::gate_at` meets its contract.
+-- `changes::calls::gate_at` meets its contract.
 -- Assumes nothing.
 use borrow.Author.Needs.{needs}
-use Rattle.decisions.proofs.Calling.{no-gate}
-use Rattle.decisions.proofs.calls.gate_at.Statement.{statement}
-use Rattle.decisions.proofs.calls.gate_at.Tie as tie
+use Rattle.changes.proofs.Calling.{no-gate}
+use Rattle.changes.proofs.calls.gate_at.Statement.{statement}
+use Rattle.changes.proofs.calls.gate_at.Tie as tie
 
 index-requires : tie.Need-index-requires
 index-requires c κs = search needs

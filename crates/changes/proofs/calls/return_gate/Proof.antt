@@ -1,4 +1,4 @@
--- `decisions::calls::return_gate` meets its contract.
+-- `changes::calls::return_gate` meets its contract.
 -- Assumes nothing.
 use Prim.Native.Nat.{ℕ}
 use mathlib.Core.Path.{_≡_, sym, _∙_}
@@ -10,9 +10,9 @@ use Rattle.model.specs.Word.{gateReturn}
 use Rattle.model.specs.Ops.{closeGate, does, row, mayReturn, table}
 use Rattle.parts.specs.Live.{controlOf}
 use Rattle.parts.proofs.Frames.{newest-is}
-use Rattle.decisions.proofs.Calling.{kept-pair}
-use Rattle.decisions.proofs.calls.return_gate.Statement.{statement}
-use Rattle.decisions.proofs.calls.return_gate.Tie as tie
+use Rattle.changes.proofs.Calling.{kept-pair}
+use Rattle.changes.proofs.calls.return_gate.Statement.{statement}
+use Rattle.changes.proofs.calls.return_gate.Tie as tie
 
 is-gate-requires : tie.Need-is-gate-requires
 is-gate-requires c κs = search needs

@@ -28,7 +28,7 @@ ghost use Rattle.model.specs.declared.Fixed.{Fixed};
 ghost use Rattle.model.specs.Numbers.{valueCount};
 ghost use Rattle.model.specs.WellFormed.{noGate};
 ghost use Rattle.model.specs.Word.{upcall, gateCall, gateReturn};
-ghost use Rattle.decisions.specs.Inner.Rows.{Changes};
+ghost use Rattle.changes.specs.Changes.{Changes};
 
 // Whether the join of the pair flows to the new pc label, and the labels of an upcall's length and return pc may be
 // read.
@@ -48,7 +48,7 @@ fn wide(x: u32) -> u64
 }
 
 // Op 18.
-pub(in crate) fn upcall(
+pub fn upcall(
     w: u32,
     live: Live,
     values: &[u32; REGISTER_COUNT],
@@ -101,7 +101,7 @@ fn gate_at(fixed: Fixed, number: u32) -> CallGate
 }
 
 // Op 20.
-pub(in crate) fn call_gate(
+pub fn call_gate(
     w: u32,
     fixed: Fixed,
     live: Live,
@@ -126,7 +126,7 @@ pub(in crate) fn call_gate(
 }
 
 // Op 21.
-pub(in crate) fn return_gate(live: Live) -> Change
+pub fn return_gate(live: Live) -> Change
     ensures { λ r. ⌜ ((w : ℕ) (fixed : Fixed) (values labels : List ℕ) → Changes gateReturn w 4 fixed live values labels r) ⌝ }
 {
     let pair = live.pair;

@@ -1,11 +1,11 @@
--- `decisions::rows::set_label` meets its contract.
+-- `changes::rows::set_label` meets its contract.
 -- Assumes nothing.
 use borrow.Author.Needs.{needs}
 use Rattle.model.specs.Ops.{writable, table}
 use Rattle.model.specs.Record.{valueAt, labelAt}
-use Rattle.decisions.proofs.Calling.{label-below}
-use Rattle.decisions.proofs.rows.set_label.Statement.{statement}
-use Rattle.decisions.proofs.rows.set_label.Tie as tie
+use Rattle.changes.proofs.Calling.{label-below}
+use Rattle.changes.proofs.rows.set_label.Statement.{statement}
+use Rattle.changes.proofs.rows.set_label.Tie as tie
 
 a-of-requires : tie.Need-a-of-requires
 a-of-requires c κs = search needs

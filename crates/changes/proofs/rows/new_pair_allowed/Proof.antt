@@ -1,10 +1,10 @@
--- `decisions::rows::new_pair_allowed` meets its contract.
+-- `changes::rows::new_pair_allowed` meets its contract.
 -- Assumes nothing.
 use borrow.Author.Tests.{lt-ltb, le-ltb}
 use borrow.Author.Needs.{needs}
 use Rattle.model.specs.Ops.{isLabel}
-use Rattle.decisions.proofs.rows.new_pair_allowed.Statement.{statement}
-use Rattle.decisions.proofs.rows.new_pair_allowed.Tie as tie
+use Rattle.changes.proofs.rows.new_pair_allowed.Statement.{statement}
+use Rattle.changes.proofs.rows.new_pair_allowed.Tie as tie
 
 label-of-requires : tie.Need-label-of-requires
 label-of-requires c κs = search needs

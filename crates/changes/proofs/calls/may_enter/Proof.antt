@@ -1,8 +1,8 @@
--- `decisions::calls::may_enter` meets its contract.
+-- `changes::calls::may_enter` meets its contract.
 -- Assumes nothing.
 use borrow.Author.Needs.{needs}
-use Rattle.decisions.proofs.calls.may_enter.Statement.{statement}
-use Rattle.decisions.proofs.calls.may_enter.Tie as tie
+use Rattle.changes.proofs.calls.may_enter.Statement.{statement}
+use Rattle.changes.proofs.calls.may_enter.Tie as tie
 
 flows-to-requires : tie.Need-flows-to-requires
 flows-to-requires c κs = search needs

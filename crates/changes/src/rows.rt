@@ -17,7 +17,7 @@ ghost use Rattle.labels.specs.Label.{labelCount, flows, validPair};
 ghost use Rattle.model.specs.declared.Fixed.{Fixed};
 ghost use Rattle.model.specs.Word.{setLabel, setPair};
 ghost use Rattle.model.specs.Ops.{isLabel, allows};
-ghost use Rattle.decisions.specs.Inner.Rows.{ruleOf, Changes};
+ghost use Rattle.changes.specs.Changes.{ruleOf, Changes};
 
 // The rules of ops 15 and 16.
 pub enum Rule {
@@ -48,7 +48,7 @@ fn may_become(rule: Rule, x: u32, la: Bits, p: Bits) -> bool
 }
 
 // Ops 15 and 16.
-pub(in crate) fn set_label(
+pub fn set_label(
     rule: Rule,
     w: u32,
     live: Live,
@@ -84,7 +84,7 @@ pub(in crate) fn new_pair_allowed(rb: u32, rc: u32, lb: Bits, lc: Bits, p: Bits)
 }
 
 // Op 17.
-pub(in crate) fn set_pair(
+pub fn set_pair(
     w: u32,
     live: Live,
     values: &[u32; REGISTER_COUNT],

@@ -1,4 +1,4 @@
--- `decisions::rows::set_pair` meets its contract.
+-- `changes::rows::set_pair` meets its contract.
 -- Assumes nothing.
 use Prim.Native.Nat.{ℕ}
 use mathlib.Core.Path.{_≡_}
@@ -11,9 +11,9 @@ use Rattle.model.specs.Record.{stateFrom, valueAt, labelAt}
 use Rattle.model.specs.Word.{setPair}
 use Rattle.model.specs.Ops.{enter, does, row, newPairAllowed, table}
 use Rattle.parts.specs.Live.{controlOf}
-use Rattle.decisions.proofs.Calling.{pair-below}
-use Rattle.decisions.proofs.rows.set_pair.Statement.{statement}
-use Rattle.decisions.proofs.rows.set_pair.Tie as tie
+use Rattle.changes.proofs.Calling.{pair-below}
+use Rattle.changes.proofs.rows.set_pair.Statement.{statement}
+use Rattle.changes.proofs.rows.set_pair.Tie as tie
 
 b-of-requires : tie.Need-b-of-requires
 b-of-requires c κs = search needs

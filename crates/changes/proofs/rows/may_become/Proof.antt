@@ -1,10 +1,10 @@
--- `decisions::rows::may_become` meets its contract.
+-- `changes::rows::may_become` meets its contract.
 -- Assumes nothing.
 use borrow.Author.Tests.{lt-ltb, le-ltb}
 use borrow.Author.Needs.{needs}
 use Rattle.model.specs.Ops.{isLabel}
-use Rattle.decisions.proofs.rows.may_become.Statement.{statement}
-use Rattle.decisions.proofs.rows.may_become.Tie as tie
+use Rattle.changes.proofs.rows.may_become.Statement.{statement}
+use Rattle.changes.proofs.rows.may_become.Tie as tie
 
 label-of-requires : tie.Need-label-of-requires
 label-of-requires c κs = search needs

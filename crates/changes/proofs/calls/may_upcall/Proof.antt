@@ -1,8 +1,8 @@
--- `decisions::calls::may_upcall` meets its contract.
+-- `changes::calls::may_upcall` meets its contract.
 -- Assumes nothing.
 use borrow.Author.Needs.{needs}
-use Rattle.decisions.proofs.calls.may_upcall.Statement.{statement}
-use Rattle.decisions.proofs.calls.may_upcall.Tie as tie
+use Rattle.changes.proofs.calls.may_upcall.Statement.{statement}
+use Rattle.changes.proofs.calls.may_upcall.Tie as tie
 
 join-requires : tie.Need-join-requires
 join-requires c κs = search needs

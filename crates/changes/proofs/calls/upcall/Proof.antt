@@ -1,4 +1,4 @@
--- `decisions::calls::upcall` meets its contract.
+-- `changes::calls::upcall` meets its contract.
 -- Assumes nothing.
 use Prim.Native.Nat.{ℕ, _+_}
 use mathlib.Core.Path.{_≡_, sym, _∙_}
@@ -13,9 +13,9 @@ use Rattle.model.specs.Record.{stateFrom, valueAt, labelAt, isUpcall}
 use Rattle.model.specs.Word.{upcall}
 use Rattle.model.specs.Ops.{openUpcall, does, row, newPairAllowed, mayUpcall, table}
 use Rattle.parts.specs.Live.{callOf, controlOf}
-use Rattle.decisions.proofs.Calling.{in-upcall, pair-below}
-use Rattle.decisions.proofs.calls.upcall.Statement.{statement}
-use Rattle.decisions.proofs.calls.upcall.Tie as tie
+use Rattle.changes.proofs.Calling.{in-upcall, pair-below}
+use Rattle.changes.proofs.calls.upcall.Statement.{statement}
+use Rattle.changes.proofs.calls.upcall.Tie as tie
 
 a-of-requires : tie.Need-a-of-requires
 a-of-requires c κs = search needs

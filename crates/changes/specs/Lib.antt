@@ -1,0 +1,2 @@
+-- What the public promises cite.
+pub mod Changes
