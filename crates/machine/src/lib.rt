@@ -64,7 +64,12 @@ fn refused(machine: Machine, cause: Cause) -> Answer
 }
 
 // The answer of one step, of a run or of a run to a tick.
-pub fn answer_of(machine: Machine, request: Request, words: &mut [u32], marks: &mut [Bits]) -> Answer
+pub fn answer_of(
+    machine: Machine,
+    request: Request,
+    words: &mut [u32],
+    marks: &mut [Bits],
+) -> Answer
     ensures { λ r. ⌜ answered r (now (words .exit)) (now (marks .exit)) ≡ answerOf request (recordOf machine) (lent (now (words .entry)) (now (marks .entry))) ⌝ }
 {
     if machine.is_well_formed() {
