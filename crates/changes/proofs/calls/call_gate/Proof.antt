@@ -1,10 +1,16 @@
 -- `changes::calls::call_gate` meets its contract.
 -- Assumes nothing.
-use mathlib.Core.Path.{sym, _∙_}
+use Prim.Native.Nat.{ℕ}
+use mathlib.Core.Path.{_≡_, sym, _∙_}
+use mathlib.Core.Bool.{true}
+use mathlib.Core.List.{List}
+use denote.Ref.{now}
 use borrow.Author.Tests.{lt-ltb, le-ltb}
 use borrow.Author.Needs.{needs}
-use Rattle.model.specs.Ops.{table, mayCallGate}
-use Rattle.model.specs.Record.{valueAt, labelAt}
+use Rattle.model.specs.Record.{stateFrom, valueAt, labelAt, isEmpty}
+use Rattle.model.specs.Word.{gateCall}
+use Rattle.model.specs.Ops.{openGate, does, row, mayCallGate, table}
+use Rattle.parts.specs.Live.{callOf, controlOf}
 use Rattle.parts.proofs.Frames.{newest-is}
 use Rattle.changes.proofs.calls.call_gate.Statement.{statement}
 use Rattle.changes.proofs.calls.call_gate.Tie as tie
@@ -30,46 +36,33 @@ element-copy-out-may-enter c = search needs
 may-enter-requires : tie.Need-may-enter-requires
 may-enter-requires c κs = search needs
 
-returns : tie.Need-returns
+-- No call is open.
+no-call : (c : tie.After-may-enter) → isEmpty (callOf (c .before .before .before .before .before .before .before .before .before .before .before .args .live .newest)) ≡ true
+no-call c = let free = c .before .before .before .before .before .before in sym (free .before .is-empty .ensures) ∙ free .if1 .taken
+
+-- The row then, where the number is a gate's: its check is what the code tests last.
+row-is : (c : tie.After-may-enter) (words marks : List ℕ)
+    → let args = c .before .before .before .before .before .before .before .before .before .before .before .args in
+    table (stateFrom (args .fixed) (controlOf (args .live)) (now (args .values)) (now (args .labels)) words marks) (args .w) gateCall
+    ≡ row (c .may-enter .result) (does (openGate (c .before .before .before .gate-at .result))) 4
 unfolding table mayCallGate valueAt labelAt
+row-is c words marks =
+    let at = c .before .before .before in
+    rw (
+      newest-is _,
+      no-call c,
+      ← at .before .before .before .before .before .before .b-of .ensures .0,
+      lt-ltb _ _ (at .before .if2 .taken),
+      ← at .gate-at .ensures,
+      ← c .may-enter .ensures,
+    )
+
+returns : tie.Need-returns
 returns c =
-    let at = c .before .before .before .before in
-    let free = at .before .before .before in
-    let none = sym (free .before .is-empty .ensures) ∙ free .if1 .taken in
-    record {
-      is =
-          λ words marks.
-          rw (
-            newest-is _,
-            none,
-            ← free .before .before .before .b-of .ensures .0,
-            lt-ltb _ _ (at .before .if2 .taken),
-            ← at .gate-at .ensures,
-            ← c .before .may-enter .ensures,
-            c .if3 .taken,
-          );
-      fits = λ p. (p, none);
-    }
+    record { is = λ words marks. rw (row-is (c .before) words marks, c .if3 .taken); fits = λ p. (p, no-call (c .before)) }
 
 returns-2 : tie.Need-returns-2
-unfolding table mayCallGate valueAt labelAt
-returns-2 c =
-    let at = c .before .before .before .before in
-    let free = at .before .before .before in
-    record {
-      is =
-          λ words marks.
-          rw (
-            newest-is _,
-            sym (free .before .is-empty .ensures) ∙ free .if1 .taken,
-            ← free .before .before .before .b-of .ensures .0,
-            lt-ltb _ _ (at .before .if2 .taken),
-            ← at .gate-at .ensures,
-            ← c .before .may-enter .ensures,
-            c .if3 .left,
-          );
-      fits = λ p. p;
-    }
+returns-2 c = record { is = λ words marks. rw (row-is (c .before) words marks, c .if3 .left); fits = λ p. p }
 
 returns-3 : tie.Need-returns-3
 unfolding table mayCallGate valueAt labelAt

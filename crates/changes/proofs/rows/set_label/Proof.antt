@@ -1,8 +1,20 @@
 -- `changes::rows::set_label` meets its contract.
 -- Assumes nothing.
+use Prim.Native.Nat.{ℕ}
+use mathlib.Core.Path.{_≡_}
+use mathlib.Core.Bool.{_&&_}
+use mathlib.Core.List.{List}
+use denote.Ref.{now}
+use lib.Dec.{ltb}
+use lib.ListN.{getD}
 use borrow.Author.Needs.{needs}
-use Rattle.model.specs.Ops.{writable, table}
-use Rattle.model.specs.Record.{valueAt, labelAt}
+use Rattle.model.specs.declared.Fixed.{Fixed}
+use Rattle.model.specs.Numbers.{zeroRegister}
+use Rattle.model.specs.Record.{register, stateFrom, valueAt, labelAt}
+use Rattle.model.specs.Word.{setLabel}
+use Rattle.model.specs.Ops.{label, write, does, row, writable, table}
+use Rattle.parts.specs.Live.{controlOf}
+use Rattle.changes.specs.Changes.{ruleOf}
 use Rattle.changes.proofs.Calling.{label-below}
 use Rattle.changes.proofs.rows.set_label.Statement.{statement}
 use Rattle.changes.proofs.rows.set_label.Tie as tie
@@ -34,44 +46,35 @@ flows-to-requires c κs = search needs
 label-of-requires : tie.Need-label-of-requires
 label-of-requires c κs = label-below _ _ (c .before .before .before .before .may-become .ensures) (c .before .before .before .if1 .taken)
 
-returns : tie.Need-returns
+-- The row, where the value is a label that the rule allows: its check is what the code tests last.
+row-is : (c : tie.After-flows-to) (fixed : Fixed) (words marks : List ℕ)
+    → let args = c .before .before .before .before .before .before .before .before .before .args in
+    let fields = c .before .before .before .before .before .before in
+    table (stateFrom fixed (controlOf (args .live)) (now (args .values)) (now (args .labels)) words marks) (args .w) (setLabel (ruleOf (args .rule)))
+    ≡ row (c .flows-to .result && ltb zeroRegister (fields .before .a-of .result))
+    (does (write (label (register (fields .before .a-of .result)) (getD (now (args .values)) (fields .b-of .result) 0)))) 2
 unfolding table writable valueAt labelAt
-returns c fixed =
-    let at = c .before .before .before .before in
+row-is c fixed words marks =
+    let at = c .before .before in
     let fields = at .before .before .before .before in
+    rw (
+      ← fields .before .a-of .ensures .0,
+      ← fields .b-of .ensures .0,
+      ← at .before .may-become .ensures,
+      at .if1 .taken,
+      ← c .flows-to .ensures,
+    )
+
+returns : tie.Need-returns
+returns c fixed =
+    let tried = c .before .before in
     record {
-      is =
-          λ words marks.
-          rw (
-            ← fields .before .a-of .ensures .0,
-            ← fields .b-of .ensures .0,
-            ← at .before .may-become .ensures,
-            at .if1 .taken,
-            ← c .before .before .flows-to .ensures,
-            c .before .if2 .taken,
-            c .label-of .ensures,
-          );
-      fits = λ p. (fields .before .a-of .ensures .1, p);
+      is = λ words marks. rw (row-is tried fixed words marks, c .before .if2 .taken, c .label-of .ensures);
+      fits = λ p. (tried .before .before .before .before .before .before .before .a-of .ensures .1, p);
     }
 
 returns-2 : tie.Need-returns-2
-unfolding table writable valueAt labelAt
-returns-2 c fixed =
-    let at = c .before .before .before in
-    let fields = at .before .before .before .before in
-    record {
-      is =
-          λ words marks.
-          rw (
-            ← fields .before .a-of .ensures .0,
-            ← fields .b-of .ensures .0,
-            ← at .before .may-become .ensures,
-            at .if1 .taken,
-            ← c .before .flows-to .ensures,
-            c .if2 .left,
-          );
-      fits = λ p. p;
-    }
+returns-2 c fixed = record { is = λ words marks. rw (row-is (c .before) fixed words marks, c .if2 .left); fits = λ p. p }
 
 returns-3 : tie.Need-returns-3
 unfolding table writable valueAt labelAt
