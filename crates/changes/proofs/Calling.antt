@@ -1,4 +1,4 @@
--- Laws about the state at a decision: its newest call, values that pass for labels, and numbers of gates.
+-- Laws about the state at an op: its newest call, values that pass for labels, and numbers of gates.
 -- Assumes nothing.
 use Prim.Native.Nat.{ℕ, _≤_, _<_}
 use mathlib.Core.Path.{_≡_, sym, ap, _∙_}

@@ -1,2 +1,2 @@
--- Laws that proofs of functions cite, here and above: the state at a decision.
+-- Laws that proofs of functions cite, here and above: the state at an op.
 pub mod Calling

@@ -1,4 +1,3 @@
-// What ops 15 to 18, 20 and 21 change, if their checks pass. How long an op takes, and whether that time is left, the
-// crate `decisions` asks.
+// What ops 15 to 18, 20 and 21 change, if their checks pass. Whether an op finishes in time isn't asked here.
 pub mod calls;
 pub mod rows;
