@@ -19,11 +19,11 @@ use Rattle.model.specs.Certificate as model
 use Rattle.model.proofs.Truth.{choice, either, and-iff}
 use Rattle.model.proofs.Ready.{fits, whole-lent, ready, Ready}
 use Rattle.model.proofs.RunTo.{run-to-end}
-use Rattle.engine.specs.declared.Pace.{Pace}
-use Rattle.engine.specs.declared.Pace.the-variants.{Onward, Stride}
+use Rattle.pacing.specs.declared.Pace.{Pace}
+use Rattle.pacing.specs.declared.Pace.the-variants.{Onward, Stride}
+use Rattle.pacing.proofs.Fitting.{ready-fitting}
 use Rattle.engine.specs.Stride.{stride, runCount, strode}
 use Rattle.engine.specs.Advance.{paced, advanced}
-use Rattle.engine.proofs.Fitting.{ready-fitting}
 use Rattle.certify.specs.declared.Certificate.{Certificate}
 use Rattle.certify.specs.Certified.{certificateOf}
 use Rattle.certify.specs.Inner.Breaks.{breakWith}

@@ -3,7 +3,6 @@
 use breaks::break_of;
 use breaks::leads_within;
 use causes::Outcome;
-use engine::Pace;
 use engine::Task;
 use engine::advance;
 use labels::Bits;
@@ -11,6 +10,7 @@ use loader::load;
 use machine_record::Machine;
 use model::Control;
 use model::numbers;
+use pacing::Pace;
 use release::has_time;
 use release::relabelling;
 use release::releases;

@@ -4,10 +4,10 @@ use Prim.Native.Nat.{ℕ, zero, suc, _+_, _-_, _≤_, _<_}
 use mathlib.Core.Path.{_≡_, refl, sym, ap, ap₂, _∙_, subst}
 use mathlib.Core.Logic.{_⊎_, inl, inr, ⊎-elim}
 use mathlib.Core.Bool.{Bool, true, false, _&&_, _||_, cond}
-use mathlib.Core.List.{List, []}
+use mathlib.Core.List.{List}
 use native.Mathlib.Nat.{le-trans}
 use native.Mathlib.Omega.{arith}
-use lib.Dec.{ltb, leb, eqb, lit≤}
+use lib.Dec.{ltb, eqb, lit≤}
 use lib.ListN.{length, getD}
 use borrow.Author.Tests.{eq-eqb, ne-eqb, eqb-true, lt-ltb, le-ltb, ltb-true, ltb-false, le-leb, lt-leb, leb-true}
 use Rattle.model.specs.declared.Fixed.{Fixed}
@@ -15,26 +15,24 @@ use Rattle.model.specs.declared.Control.{Control}
 use Rattle.model.specs.declared.Call.{Call}
 use Rattle.model.specs.declared.Call.the-variants.{Empty, Gate, Upcall}
 use Rattle.model.specs.Numbers.{mostWords, mostTicks, mostGates}
-use Rattle.model.specs.WellFormed.{lentWhole}
 use Rattle.model.specs.Record.{Bank, State, lent, valueAt, stateFrom, inUpcall, isUpcall, endTickOf, newest}
 use mathlib.Core.Option.{Option, none, some}
 use Rattle.model.specs.Word.{opField, decode, Op, immediate, arithmetic, load, store, branch, jump, readClock, setLabel, setPair, upcall, endUpcall, gateCall, gateReturn, halt}
-use Rattle.model.specs.Ops.{Write, table}
-use Rattle.model.specs.Step.{Decision as Decides, Fetched, failed, fetched, known, fetchAllowed, finish, finishesBy, fetch, moved, endTick, inLimit, running, decide, written, writeOf, causeAllowed, causeWrite, controlAfter, withControl, apply, step, stepsBy, runTo}
+use Rattle.model.specs.Ops.{table}
+use Rattle.model.specs.Step.{Decision as Decides, Fetched, failed, fetched, known, fetchAllowed, finish, finishesBy, fetch, moved, endTick, inLimit, running, decide, written, writeOf, controlAfter, withControl, apply, step, stepsBy, runTo}
 use Rattle.model.proofs.Truth.{choice, either, clash, and-iff}
 use Rattle.model.proofs.Legal.{ticks-long}
-use Rattle.model.proofs.Ready.{whole-lengths, whole-lent}
+use Rattle.model.proofs.Ready.{whole-lent}
 use Rattle.model.proofs.WellFormed.{step-fixed}
 use Rattle.model.proofs.Step.{step-clock, carried-clock, step-ended}
 use Rattle.model.proofs.RunTo.{late-stays, timely-goes, ended-stays}
 use Rattle.parts.specs.declared.live.Live.{Live}
 use Rattle.parts.specs.declared.stages.Reason.{Reason}
 use Rattle.parts.specs.declared.stages.Reason.the-variants.{Out, Late, Outside, Unreadable, Failed, Rest}
-use Rattle.parts.specs.declared.stages.Change.the-variants.{Pass, SetLabel, Goto, Enter, OpenUpcall, OpenGate, CloseGate, Stop}
 use Rattle.parts.specs.declared.stages.Decision.{Decision}
 use Rattle.parts.specs.declared.stages.Decision.the-variants.{Spend, Stall, Close, Carry}
 use Rattle.parts.specs.Calls.{newestOf, nearer, deadlineOf}
-use Rattle.parts.specs.Live.{callOf, controlOf, Stacked, stacks, Lives}
+use Rattle.parts.specs.Live.{callOf, controlOf, Stacked, Lives}
 use Rattle.parts.specs.Stages.{isCommonOp, decisionOf, planFor, HasNext, Applies}
 use Rattle.parts.proofs.Frames.{newest-is}
 use Rattle.sprint.specs.Skim.{isCommon, Skim, skim}
@@ -48,12 +46,17 @@ use Rattle.transitions.specs.Transitions as transitions
 use Rattle.transitions.specs.Transitions.{writtenBack}
 use Rattle.transitions.specs.Inner.Meaning.{Timely, After, Wrote}
 use Rattle.transitions.proofs.Applied as applied
-use Rattle.engine.specs.declared.Pace.{Pace}
-use Rattle.engine.specs.declared.Pace.the-variants.{Once, Onward, Stride}
+use Rattle.pacing.specs.declared.Pace.{Pace}
+use Rattle.pacing.specs.declared.Pace.the-variants.{Once, Onward, Stride}
+use Rattle.pacing.specs.Pace.{isOnce, isStride, tickOf, relabelsAt}
+use Rattle.pacing.specs.Fitting.{isTimely, InRanges}
+use Rattle.pacing.specs.Turned.{setsLabel}
+use Rattle.pacing.proofs.Ticks.{tick-limit, tick-own, tick-here}
+use Rattle.pacing.proofs.Mirroring.{keeps-labels}
 use Rattle.engine.specs.declared.Task.{Task}
 use Rattle.engine.specs.Stride.{fetchesRelabelling, ends, stride, runCount, strode}
-use Rattle.engine.specs.Advance.{isTimely, fitting, paced}
-use Rattle.engine.specs.Inner.Drive.{isOnce, isStride, tickOf, contextOf, Alone, relabelsAt, setsLabel, finishOf, InRanges, Driven}
+use Rattle.engine.specs.Advance.{paced}
+use Rattle.engine.specs.Inner.Drive.{contextOf, Alone, finishOf, Driven}
 use Rattle.engine.proofs.Skimming.{skim-first, skim-behind, skim-stays, ended-uncommon, stopped-relabels, stride-ends, stride-goes, ends-first, ends-there}
 use Rattle.engine.proofs.Settling.{Common, common-of, Settles, settles, finish-in-limit, stopped-uncommon}
 
@@ -258,21 +261,6 @@ pub record Went (fixed : Fixed) (task : Task) (values₀ labels₀ words₀ mark
       (stateFrom fixed (controlOf live) values labels words marks)
   pub long : length words ≡ length words₀
 
--- The tick of a pace is the limit at most, and a run's own tick.
-pub tick-limit : (pace : Pace) (limit : ℕ) → tickOf pace limit ≤ limit
-tick-limit Once limit = omega arith
-tick-limit (Onward k) limit =
-    choice (λ (x : ℕ). x ≤ limit) (ltb k limit) _ _ (λ l. let g = ltb-true k limit l in omega (arith, g)) (λ l. omega arith)
-tick-limit Stride limit = omega arith
-
-tick-own : (k limit : ℕ) → nearer k limit ≤ k
-tick-own k limit = choice (λ (x : ℕ). x ≤ k) (ltb k limit) _ _ (λ l. omega arith) (λ l. ltb-false k limit l)
-
--- A tick before the limit is the nearer one.
-tick-here : (k limit : ℕ) → nearer k limit < limit → k ≤ nearer k limit
-tick-here k limit =
-    choice (λ (x : ℕ). x < limit → k ≤ x) (ltb k limit) k limit (λ b y. omega arith) (λ b y. absurd (omega (arith, y)))
-
 -- At the start.
 remains-start : (pace : Pace) (s : State) → s .control .clock ≤ tickOf pace (s .fixed .limit) → Remains pace s s
 unfolding runTo
@@ -346,22 +334,6 @@ fetched-there s w op e =
     known-word : (x : ℕ) (o : Option Op) {y : ℕ} {p : Op} → known x o ≡ fetched y p → y ≡ x
     known-word x none q = absurd (not-fetched q)
     known-word x (some o) q = sym (ap wordOf q)
-
--- A decision that sets no label leaves those of the registers.
-keeps-labels : (s : State) (d : Decision) → setsLabel d ≡ false → written s (writeOf s (decisionOf d)) .registers .labels ≡ s .registers .labels
-unfolding written writeOf causeWrite
-keeps-labels s Spend e = refl
-keeps-labels s (Stall why) e = refl
-keeps-labels s (Close cause) e =
-    choice (λ (x : Write). written s x .registers .labels ≡ s .registers .labels) (causeAllowed s) _ _ (λ b. refl) (λ b. refl)
-keeps-labels s (Carry ticks Pass) e = refl
-keeps-labels s (Carry ticks (SetLabel a l)) e = clash refl e
-keeps-labels s (Carry ticks (Goto k)) e = refl
-keeps-labels s (Carry ticks (Enter q)) e = refl
-keeps-labels s (Carry ticks (OpenUpcall k q t)) e = refl
-keeps-labels s (Carry ticks (OpenGate k q)) e = refl
-keeps-labels s (Carry ticks CloseGate) e = refl
-keeps-labels s (Carry ticks Stop) e = refl
 
 -- The tick by which a common op has to finish.
 abbrev dueBy : Fixed → Pace → Live → ℕ
@@ -986,26 +958,3 @@ first-or-more {pace} {once} {single} left′ count {place} {start} y asked v too
         ⊎-elim (λ (x : ltb left′ (place .left) ≡ true). absurd (f (ltb-true left′ (place .left) x)))
         (λ (x : ltb left′ (place .left) ≡ false). omega (arith, took, ltb-false left′ (place .left) x, ap (λ (p : Place). p .left) v))
         (either (ltb left′ (place .left)))
-
--- ---- what is tested first
-
--- The test says what the steps ask.
-pub ranges-of : (fixed : Fixed) (c : Control) (words marks : List ℕ) → fitting (stateFrom fixed c [] [] words marks) ≡ true → InRanges fixed c words marks
-ranges-of fixed c words marks e =
-    let calls = and-iff _ (stacks (c .first) (c .second) && isTimely (c .clock) (newestOf (c .first) (c .second))) .0 e in
-    let whole = and-iff _ (lentWhole (fixed .size) (lent words marks)) .0 (calls .0) in
-    let clock = and-iff _ (leb (c .clock) (fixed .limit)) .0 (whole .0) in
-    let gates = and-iff _ (leb (fixed .count) mostGates) .0 (clock .0) in
-    let both = and-iff (leb (fixed .size) mostWords) (leb (fixed .limit) mostTicks) .0 (gates .0) in
-    let stack = and-iff (stacks (c .first) (c .second)) (isTimely (c .clock) (newestOf (c .first) (c .second))) .0 (calls .1) in
-    let lengths = whole-lengths (fixed .size) (lent words marks) (whole .1) in
-    record {
-      size = leb-true (fixed .size) mostWords (both .0);
-      limit = leb-true (fixed .limit) mostTicks (both .1);
-      gates = leb-true (fixed .count) mostGates (gates .1);
-      clock = leb-true (c .clock) (fixed .limit) (clock .1);
-      words-lent = lengths .0;
-      marks-lent = lengths .1;
-      stacked = stack .0;
-      timely = stack .1;
-    }

@@ -1,7 +1,5 @@
--- Laws that the proofs of the functions cite: turned labels, common ops skimmed, what is decided where the hot loop stops,
--- the steps in turn, and what a well-formed record has of what they ask.
-pub mod Mirroring
+-- Laws that the proofs of the functions cite: common ops skimmed, what is decided where the hot loop stops, and the steps in
+-- turn.
 pub mod Skimming
 pub mod Settling
 pub mod Driving
-pub mod Fitting

@@ -20,8 +20,8 @@ use Rattle.parts.specs.declared.stages.Reason.the-variants.{Out, Late, Outside,
 use Rattle.parts.specs.Stages.{fetchesCommon}
 use Rattle.sprint.specs.Skim.{isCommon, Skim, skim}
 use Rattle.sprint.specs.Sprint.{Stopped}
+use Rattle.pacing.specs.Pace.{relabelsAt}
 use Rattle.engine.specs.Stride.{fetchesRelabelling, ends, stride}
-use Rattle.engine.specs.Inner.Drive.{relabelsAt}
 
 -- So many steps are those that are left after the common ops.
 pub skim-steps : (n : ℕ) (s : State) → steps n s ≡ steps (skim n s .left) (skim n s .state)

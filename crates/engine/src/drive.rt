@@ -1,23 +1,24 @@
 // The steps of a machine that fits: the hot loop, then one step of what it stopped at, in turn.
-use crate::Pace;
 use crate::Task;
 use decisions::decide;
 use labels::Bits;
-use labels::Label;
 use model::Control;
 use model::Fixed;
 use model::numbers::REGISTER_COUNT;
-use parts::calls::nearer;
+use pacing::is_once;
+use pacing::is_stride;
+use pacing::looked_at;
+use pacing::relabels;
+use pacing::tick_of;
+use pacing::turned::sets_label;
+use pacing::turned::turn;
 use parts::live::Live;
 use parts::live::control_of;
 use parts::live::deadline_of;
 use parts::live::is_upcall;
 use parts::live::live_of;
-use parts::stages::Change;
 use parts::stages::Decision;
-use parts::stages::Reason;
 use parts::word::index;
-use parts::word::op_of;
 use sprint::Context;
 use sprint::Place;
 use sprint::TURNED_COUNT;
@@ -26,85 +27,16 @@ use sprint::ticks_at;
 use transitions::control_after;
 use transitions::moved;
 use transitions::write_back;
-ghost use Prim.Native.Nat.{_+_, _-_, _≤_, _<_};
+ghost use Prim.Native.Nat.{_+_, _-_, _≤_};
 ghost use mathlib.Core.Path.{_≡_};
-ghost use mathlib.Core.Bool.{cond};
 ghost use lib.Dec.{ltb};
 ghost use lib.ListN.{length};
-ghost use Rattle.labels.specs.Label.{labelCount, lacking};
 ghost use Rattle.model.specs.Numbers.{mostTicks};
 ghost use Rattle.parts.specs.Stages.{Applies};
-ghost use Rattle.sprint.specs.Sprint.{Mirrors};
-ghost use Rattle.engine.specs.Inner.Drive.{isOnce, isStride, tickOf, contextOf, Alone, relabelsAt, changesLabel, setsLabel, finishOf, InRanges, Driven};
-
-// What stands in the turned labels before they are filled.
-const UNTURNED: Bits = 0;
-
-// The number of the op that relabels.
-pub(crate) const RELABEL: u32 = 16;
-
-// ---- what is asked for
-
-fn is_once(pace: Pace) -> bool
-    ensures { λ r. ⌜ r ≡ isOnce pace ⌝ }
-{
-    match pace {
-        Pace::Once => true,
-        Pace::Onward(_) => false,
-        Pace::Stride => false,
-    }
-}
-
-fn is_stride(pace: Pace) -> bool
-    ensures { λ r. ⌜ r ≡ isStride pace ⌝ }
-{
-    match pace {
-        Pace::Once => false,
-        Pace::Onward(_) => false,
-        Pace::Stride => true,
-    }
-}
-
-// The tick by which a step has to finish.
-fn tick_of(pace: Pace, limit: u32) -> u32
-    ensures { λ r. ⌜ (r ≡ tickOf pace limit) × (r ≤ limit) ⌝ }
-{
-    match pace {
-        Pace::Once => limit,
-        Pace::Onward(tick) => nearer(tick, limit),
-        Pace::Stride => limit,
-    }
-}
+ghost use Rattle.pacing.specs.Fitting.{InRanges};
+ghost use Rattle.engine.specs.Inner.Drive.{contextOf, Alone, finishOf, Driven};
 
 // ---- before the hot loop
-
-// What a label lacks. Every byte is a label.
-fn lacked_by(label: Bits) -> Bits
-    ensures { λ r. ⌜ (r ≡ lacking label) × (label < labelCount) ⌝ }
-{
-    Label(label).lacking()
-}
-
-// The labels of the registers turned, as the hot loop reads them.
-fn turn(labels: &[Bits; REGISTER_COUNT]) -> [Bits; TURNED_COUNT]
-    ensures { λ r. ⌜ Mirrors (now (labels .entry)) r ⌝ }
-{
-    let mut turned = [UNTURNED; TURNED_COUNT];
-    let mut i = 0usize;
-    while i < REGISTER_COUNT {
-        turned[i] = Label(labels[i]).restrictions();
-        turned[i + REGISTER_COUNT] = lacked_by(labels[i]);
-        i += 1;
-    }
-    turned
-}
-
-// Of how many words the op at the pc is looked at: of none, but for one step alone.
-fn looked_at(once: bool, size: u32) -> u32
-    ensures { λ r. ⌜ r ≡ cond once size 0 ⌝ }
-{
-    if once { size } else { 0 }
-}
 
 // The deadline, or where the op at the pc is looked at the tick at which it finishes if that is nearer: of one step alone
 // the hot loop then does no other op behind it.
@@ -131,47 +63,6 @@ fn alone(
 }
 
 // ---- behind the hot loop
-
-// Whether it stopped at a word that relabels.
-fn relabels(reason: Reason) -> bool
-    ensures { λ r. ⌜ r ≡ relabelsAt reason ⌝ }
-{
-    match reason {
-        Reason::Out => false,
-        Reason::Late => false,
-        Reason::Outside => false,
-        Reason::Unreadable => false,
-        Reason::Failed => false,
-        Reason::Rest(w) => op_of(w) == RELABEL,
-    }
-}
-
-// Whether a decision sets a label, so that the turned ones are no longer those of the registers.
-fn sets_label(decision: Decision) -> bool
-    ensures { λ r. ⌜ r ≡ setsLabel decision ⌝ }
-{
-    match decision {
-        Decision::Spend => false,
-        Decision::Stall(_) => false,
-        Decision::Close(_) => false,
-        Decision::Carry(_, change) => changes_label(change),
-    }
-}
-
-fn changes_label(change: Change) -> bool
-    ensures { λ r. ⌜ r ≡ changesLabel change ⌝ }
-{
-    match change {
-        Change::Pass => false,
-        Change::SetLabel(_, _) => true,
-        Change::Goto(_) => false,
-        Change::Enter(_) => false,
-        Change::OpenUpcall(_, _, _) => false,
-        Change::OpenGate(_, _) => false,
-        Change::CloseGate => false,
-        Change::Stop => false,
-    }
-}
 
 // The clock that a decision leaves.
 fn finish_of(decision: Decision, live: Live, limit: u32) -> u32

@@ -20,9 +20,9 @@ use Rattle.model.proofs.Truth.{choice}
 use Rattle.model.proofs.Ready.{fit}
 use Rattle.model.proofs.RunTo.{unbarred, past-stays}
 use Rattle.machine_record.specs.declared.Machine.{Machine}
-use Rattle.engine.specs.declared.Pace.{Pace}
+use Rattle.pacing.specs.declared.Pace.{Pace}
+use Rattle.pacing.proofs.Fitting.{ready-fitting}
 use Rattle.engine.specs.Advance.{paced, advanced}
-use Rattle.engine.proofs.Fitting.{ready-fitting}
 use Rattle.machine_record.specs.Struct.{recordOf}
 use Rattle.machine.specs.Answered.{answered}
 use Rattle.machine.specs.Inner.Carried.{paceOf, Carried}

@@ -2,13 +2,13 @@
 // short, is refused; then the record comes back and memory is left.
 use causes::Cause;
 use causes::Outcome;
-use engine::Pace;
 use engine::Task;
 use engine::advance;
 use labels::Bits;
 use machine_record::Machine;
 use machine_record::is_lent_whole;
 use model::Request;
+use pacing::Pace;
 ghost use mathlib.Core.Path.{_≡_};
 ghost use mathlib.Core.Bool.{true};
 ghost use Rattle.model.specs.Record.{lent};

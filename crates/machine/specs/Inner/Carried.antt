@@ -7,8 +7,8 @@ use Rattle.model.specs.declared.Request.{Request}
 use Rattle.model.specs.declared.Request.the-variants.{Step, Run, RunTo}
 use Rattle.model.specs.Record.{machineOf, stateOf, lent}
 use Rattle.model.specs.Answer.{work}
-use Rattle.engine.specs.declared.Pace.{Pace}
-use Rattle.engine.specs.declared.Pace.the-variants.{Once, Onward}
+use Rattle.pacing.specs.declared.Pace.{Pace}
+use Rattle.pacing.specs.declared.Pace.the-variants.{Once, Onward}
 use Rattle.machine_record.specs.declared.Machine.{Machine}
 use Rattle.machine_record.specs.Struct.{recordOf}
 

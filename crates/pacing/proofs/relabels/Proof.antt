@@ -1,8 +1,8 @@
--- `engine::drive::relabels` meets its contract.
+-- `pacing::relabels` meets its contract.
 -- Assumes nothing.
 use borrow.Author.Needs.{needs}
-use Rattle.engine.proofs.drive.relabels.Statement.{statement}
-use Rattle.engine.proofs.drive.relabels.Tie as tie
+use Rattle.pacing.proofs.relabels.Statement.{statement}
+use Rattle.pacing.proofs.relabels.Tie as tie
 
 enum-told : tie.Need-enum-told
 enum-told c = search needs

@@ -1,8 +1,8 @@
--- `engine::calls_fit` meets its contract.
+-- `pacing::ranges::calls_fit` meets its contract.
 -- Assumes nothing.
 use borrow.Author.Needs.{needs}
-use Rattle.engine.proofs.calls_fit.Statement.{statement}
-use Rattle.engine.proofs.calls_fit.Tie as tie
+use Rattle.pacing.proofs.ranges.calls_fit.Statement.{statement}
+use Rattle.pacing.proofs.ranges.calls_fit.Tie as tie
 
 enum-told : tie.Need-enum-told
 enum-told c = search needs

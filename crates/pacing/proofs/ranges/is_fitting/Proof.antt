@@ -1,9 +1,9 @@
--- `engine::is_fitting` meets its contract.
+-- `pacing::ranges::is_fitting` meets its contract.
 -- Assumes nothing.
 use borrow.Author.Needs.{needs}
 use Rattle.model.specs.WellFormed.{lentWhole}
-use Rattle.engine.proofs.is_fitting.Statement.{statement}
-use Rattle.engine.proofs.is_fitting.Tie as tie
+use Rattle.pacing.proofs.ranges.is_fitting.Statement.{statement}
+use Rattle.pacing.proofs.ranges.is_fitting.Tie as tie
 
 index-requires : tie.Need-index-requires
 index-requires c κs = search needs

@@ -1,8 +1,8 @@
--- `engine::is_timely` meets its contract.
+-- `pacing::ranges::is_timely` meets its contract.
 -- Assumes nothing.
 use borrow.Author.Needs.{needs}
-use Rattle.engine.proofs.is_timely.Statement.{statement}
-use Rattle.engine.proofs.is_timely.Tie as tie
+use Rattle.pacing.proofs.ranges.is_timely.Statement.{statement}
+use Rattle.pacing.proofs.ranges.is_timely.Tie as tie
 
 enum-told : tie.Need-enum-told
 enum-told c = search needs

@@ -1,8 +1,8 @@
--- `engine::drive::tick_of` meets its contract.
+-- `pacing::tick_of` meets its contract.
 -- Assumes nothing.
 use borrow.Author.Needs.{needs}
-use Rattle.engine.proofs.drive.tick_of.Statement.{statement}
-use Rattle.engine.proofs.drive.tick_of.Tie as tie
+use Rattle.pacing.proofs.tick_of.Statement.{statement}
+use Rattle.pacing.proofs.tick_of.Tie as tie
 
 enum-told : tie.Need-enum-told
 enum-told c = search needs

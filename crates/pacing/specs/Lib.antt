@@ -1,0 +1,3 @@
+pub mod Pace
+pub mod Fitting
+pub mod Turned
