@@ -26,9 +26,12 @@ ghost use lib.ListN.{getD};
 ghost use Rattle.labels.specs.Label.{flows, join};
 ghost use Rattle.model.specs.declared.Fixed.{Fixed};
 ghost use Rattle.model.specs.Numbers.{valueCount};
+ghost use Rattle.model.specs.Record.{stateFrom};
 ghost use Rattle.model.specs.WellFormed.{noGate};
 ghost use Rattle.model.specs.Word.{upcall, gateCall, gateReturn};
-ghost use Rattle.changes.specs.Changes.{Changes};
+ghost use Rattle.parts.specs.Live.{controlOf};
+ghost use Rattle.parts.specs.Stages.{changeOf};
+ghost use Rattle.changes.specs.Changes.{changed, FitsIn};
 
 // Whether the join of the pair flows to the new pc label, and the labels of an upcall's length and return pc may be
 // read.
@@ -54,7 +57,7 @@ pub fn upcall(
     values: &[u32; REGISTER_COUNT],
     labels: &[Bits; REGISTER_COUNT],
 ) -> Change
-    ensures { λ r. ⌜ ((fixed : Fixed) → Changes upcall w 2 fixed live (now (values .entry)) (now (labels .entry)) r) ⌝ }
+    ensures { λ r. ⌜ ((fixed : Fixed) (words marks : List ℕ) → changeOf r ≡ changed upcall w (stateFrom fixed (controlOf live) (now (values .entry)) (now (labels .entry)) words marks)) × FitsIn 2 live r ⌝ }
 {
     let pair = live.pair;
     let a = a_of(w);
@@ -108,7 +111,7 @@ pub fn call_gate(
     values: &[u32; REGISTER_COUNT],
     labels: &[Bits; REGISTER_COUNT],
 ) -> Change
-    ensures { λ r. ⌜ Changes gateCall w 4 fixed live (now (values .entry)) (now (labels .entry)) r ⌝ }
+    ensures { λ r. ⌜ ((words marks : List ℕ) → changeOf r ≡ changed gateCall w (stateFrom fixed (controlOf live) (now (values .entry)) (now (labels .entry)) words marks)) × FitsIn 4 live r ⌝ }
 {
     let own = live.pair;
     let b = b_of(w);
@@ -127,7 +130,7 @@ pub fn call_gate(
 
 // Op 21.
 pub fn return_gate(live: Live) -> Change
-    ensures { λ r. ⌜ ((w : ℕ) (fixed : Fixed) (values labels : List ℕ) → Changes gateReturn w 4 fixed live values labels r) ⌝ }
+    ensures { λ r. ⌜ ((w : ℕ) (fixed : Fixed) (values labels words marks : List ℕ) → changeOf r ≡ changed gateReturn w (stateFrom fixed (controlOf live) values labels words marks)) × FitsIn 4 live r ⌝ }
 {
     let pair = live.pair;
     let call = live.newest;

@@ -10,14 +10,18 @@ use parts::stages::Change;
 use parts::word::a_of;
 use parts::word::b_of;
 use parts::word::c_of;
-ghost use Prim.Native.Nat.{_<_};
+ghost use Prim.Native.Nat.{ℕ, _<_};
 ghost use mathlib.Core.Path.{_≡_};
 ghost use mathlib.Core.Bool.{_&&_};
+ghost use mathlib.Core.List.{List};
 ghost use Rattle.labels.specs.Label.{labelCount, flows, validPair};
 ghost use Rattle.model.specs.declared.Fixed.{Fixed};
+ghost use Rattle.model.specs.Record.{stateFrom};
 ghost use Rattle.model.specs.Word.{setLabel, setPair};
 ghost use Rattle.model.specs.Ops.{isLabel, allows};
-ghost use Rattle.changes.specs.Changes.{ruleOf, Changes};
+ghost use Rattle.parts.specs.Live.{controlOf};
+ghost use Rattle.parts.specs.Stages.{changeOf};
+ghost use Rattle.changes.specs.Changes.{ruleOf, changed, FitsIn};
 
 // The rules of ops 15 and 16.
 pub enum Rule {
@@ -55,7 +59,7 @@ pub fn set_label(
     values: &[u32; REGISTER_COUNT],
     labels: &[Bits; REGISTER_COUNT],
 ) -> Change
-    ensures { λ r. ⌜ ((fixed : Fixed) → Changes (setLabel (ruleOf rule)) w 2 fixed live (now (values .entry)) (now (labels .entry)) r) ⌝ }
+    ensures { λ r. ⌜ ((fixed : Fixed) (words marks : List ℕ) → changeOf r ≡ changed (setLabel (ruleOf rule)) w (stateFrom fixed (controlOf live) (now (values .entry)) (now (labels .entry)) words marks)) × FitsIn 2 live r ⌝ }
 {
     let pair = live.pair;
     let a = a_of(w);
@@ -90,7 +94,7 @@ pub fn set_pair(
     values: &[u32; REGISTER_COUNT],
     labels: &[Bits; REGISTER_COUNT],
 ) -> Change
-    ensures { λ r. ⌜ ((fixed : Fixed) → Changes setPair w 2 fixed live (now (values .entry)) (now (labels .entry)) r) ⌝ }
+    ensures { λ r. ⌜ ((fixed : Fixed) (words marks : List ℕ) → changeOf r ≡ changed setPair w (stateFrom fixed (controlOf live) (now (values .entry)) (now (labels .entry)) words marks)) × FitsIn 2 live r ⌝ }
 {
     let pair = live.pair;
     let b = b_of(w);

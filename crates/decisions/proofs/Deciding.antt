@@ -24,7 +24,7 @@ use Rattle.parts.specs.declared.stages.Change.the-variants.{Pass, Goto, Stop}
 use Rattle.parts.specs.declared.stages.Decision.{Decision}
 use Rattle.parts.specs.declared.stages.Decision.the-variants.{Spend, Stall, Close, Carry}
 use Rattle.parts.specs.Stages.{changeOf, isCommonOp, fetchesCommon, lateOf, planAt}
-use Rattle.changes.specs.Changes.{changeIn, Does, Changes}
+use Rattle.changes.specs.Changes.{changeIn, changedBy, changed, FitsIn}
 use Rattle.changes.proofs.Calling.{in-upcall, end-tick}
 use Rattle.decisions.specs.Inner.Deciding.{Decides, InTime}
 use Rattle.decisions.proofs.Unknown.{NoneFrom, unknown}
@@ -134,7 +134,7 @@ abbrev pub Plain : Row → ℕ → Type 0
 Plain r ticks = (r .strict ≡ false) × (r .ticks ≡ ticks) × (passed ticks (r .effect) ≡ carry ticks (changeIn (r .effect)))
 
 -- What is attempted by such a row.
-attempt-plain : (s : State) (r : Row) (ticks : ℕ) (change : Change) → Plain r ticks → Does r change
+attempt-plain : (s : State) (r : Row) (ticks : ℕ) (change : Change) → Plain r ticks → changeOf change ≡ changedBy r
     → attempt s r ≡ carry ticks (changeOf change)
 unfolding attempt
 attempt-plain s r ticks change p e = go (r .check) e
@@ -161,17 +161,18 @@ module _ (w : ℕ) {n : ℕ} (q : n ≡ opField w) where
   module _ {fixed : Fixed} {live : Live} {values labels : List ℕ} {r : Decision} where
     -- An op that carries out a change, where its check passes.
     pub op-changes : {k ticks : ℕ} {op : Op} {change : Change} → n ≡ k → decode k ≡ some op → isCommonOp op ≡ false
-        → Changes op w ticks fixed live values labels change → InTime live ticks change r → 1 ≤ ticks
+        → ((words marks : List ℕ) → changeOf change ≡ changed op w (stateFrom fixed (controlOf live) values labels words marks))
+        → FitsIn ticks live change → InTime live ticks change r → 1 ≤ ticks
         → ((s : State) → Plain (table s w op) ticks) → Decides (Rest w) (planAt w) fixed live values labels r
-    op-changes {ticks = ticks} {op = op} {change = change} e d f a t m row =
+    op-changes {ticks = ticks} {op = op} {change = change} e d f a g t m row =
         record {
           is =
               λ words marks.
               let s = stateFrom fixed (controlOf live) values labels words marks in
-              t .is fixed values labels words marks ∙ ap (inTime s) (sym (attempt-plain s (table s w op) ticks change (row s) (a .is words marks)))
+              t .is fixed values labels words marks ∙ ap (inTime s) (sym (attempt-plain s (table s w op) ticks change (row s) (a words marks)))
               ∙ plan-op s e d f;
           ready = t .ready m;
-          suits = λ p. t .suits (a .fits p);
+          suits = λ p. t .suits (g p);
         }
 
     -- An op that decides by itself.

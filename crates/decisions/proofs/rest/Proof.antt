@@ -59,19 +59,19 @@ fault-requires c κs = search needs
 
 returns : tie.Need-returns
 unfolding decode table
-returns c = op-changes _ (c .before .before .before .op-of .ensures) (c .before .before .match .keys1) refl refl (c .before .set-label .ensures _) (c .in-time .ensures) (omega arith) (λ s. (refl, refl, refl))
+returns c = op-changes _ (c .before .before .before .op-of .ensures) (c .before .before .match .keys1) refl refl (c .before .set-label .ensures .0 _) (c .before .set-label .ensures .1) (c .in-time .ensures) (omega arith) (λ s. (refl, refl, refl))
 
 returns-2 : tie.Need-returns-2
 unfolding decode table
-returns-2 c = op-changes _ (c .before .before .before .op-of .ensures) (c .before .before .match .keys2) refl refl (c .before .set-label2 .ensures _) (c .in-time2 .ensures) (omega arith) (λ s. (refl, refl, refl))
+returns-2 c = op-changes _ (c .before .before .before .op-of .ensures) (c .before .before .match .keys2) refl refl (c .before .set-label2 .ensures .0 _) (c .before .set-label2 .ensures .1) (c .in-time2 .ensures) (omega arith) (λ s. (refl, refl, refl))
 
 returns-3 : tie.Need-returns-3
 unfolding decode table
-returns-3 c = op-changes _ (c .before .before .before .op-of .ensures) (c .before .before .match .keys3) refl refl (c .before .set-pair .ensures _) (c .in-time3 .ensures) (omega arith) (λ s. (refl, refl, refl))
+returns-3 c = op-changes _ (c .before .before .before .op-of .ensures) (c .before .before .match .keys3) refl refl (c .before .set-pair .ensures .0 _) (c .before .set-pair .ensures .1) (c .in-time3 .ensures) (omega arith) (λ s. (refl, refl, refl))
 
 returns-4 : tie.Need-returns-4
 unfolding decode table
-returns-4 c = op-changes _ (c .before .before .before .op-of .ensures) (c .before .before .match .keys4) refl refl (c .before .upcall .ensures _) (c .in-time4 .ensures) (omega arith) (λ s. (refl, refl, refl))
+returns-4 c = op-changes _ (c .before .before .before .op-of .ensures) (c .before .before .match .keys4) refl refl (c .before .upcall .ensures .0 _) (c .before .upcall .ensures .1) (c .in-time4 .ensures) (omega arith) (λ s. (refl, refl, refl))
 
 returns-5 : tie.Need-returns-5
 unfolding decode
@@ -79,11 +79,11 @@ returns-5 c = op-decides _ (c .before .before .op-of .ensures) (c .before .match
 
 returns-6 : tie.Need-returns-6
 unfolding decode table
-returns-6 c = op-changes _ (c .before .before .before .op-of .ensures) (c .before .before .match .keys6) refl refl (c .before .call-gate .ensures) (c .in-time5 .ensures) (omega arith) (λ s. (refl, refl, refl))
+returns-6 c = op-changes _ (c .before .before .before .op-of .ensures) (c .before .before .match .keys6) refl refl (c .before .call-gate .ensures .0) (c .before .call-gate .ensures .1) (c .in-time5 .ensures) (omega arith) (λ s. (refl, refl, refl))
 
 returns-7 : tie.Need-returns-7
 unfolding decode table
-returns-7 c = op-changes _ (c .before .before .before .op-of .ensures) (c .before .before .match .keys7) refl refl (c .before .return-gate .ensures _ _ _ _) (c .in-time6 .ensures) (omega arith) (λ s. (refl, refl, refl))
+returns-7 c = op-changes _ (c .before .before .before .op-of .ensures) (c .before .before .match .keys7) refl refl (c .before .return-gate .ensures .0 _ _ _ _) (c .before .return-gate .ensures .1) (c .in-time6 .ensures) (omega arith) (λ s. (refl, refl, refl))
 
 returns-8 : tie.Need-returns-8
 unfolding decode

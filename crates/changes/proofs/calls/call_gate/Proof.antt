@@ -59,31 +59,28 @@ row-is c words marks =
 
 returns : tie.Need-returns
 returns c =
-    record { is = λ words marks. rw (row-is (c .before) words marks, c .if3 .taken); fits = λ p. (p, no-call (c .before)) }
+    (λ words marks. rw (row-is (c .before) words marks, c .if3 .taken), λ p. (p, no-call (c .before)))
 
 returns-2 : tie.Need-returns-2
-returns-2 c = record { is = λ words marks. rw (row-is (c .before) words marks, c .if3 .left); fits = λ p. p }
+returns-2 c = (λ words marks. rw (row-is (c .before) words marks, c .if3 .left), λ p. p)
 
 returns-3 : tie.Need-returns-3
 unfolding table mayCallGate valueAt labelAt
 returns-3 c =
-    let free = c .before .before in
-    record {
-      is =
-          λ words marks.
-          rw (
-            newest-is _,
-            sym (free .before .is-empty .ensures) ∙ free .if1 .taken,
-            ← free .before .before .before .b-of .ensures .0,
-            le-ltb _ _ (c .if2 .left),
-          );
-      fits = λ p. p;
-    }
+    let free = c .before .before in (
+      λ words marks. rw (
+        newest-is _,
+        sym (free .before .is-empty .ensures) ∙ free .if1 .taken,
+        ← free .before .before .before .b-of .ensures .0,
+        le-ltb _ _ (c .if2 .left),
+      ),
+      λ p. p,
+    )
 
 returns-4 : tie.Need-returns-4
 unfolding table mayCallGate valueAt labelAt
 returns-4 c =
-    record { is = λ words marks. rw (newest-is _, sym (c .before .is-empty .ensures) ∙ c .if1 .left); fits = λ p. p }
+    (λ words marks. rw (newest-is _, sym (c .before .is-empty .ensures) ∙ c .if1 .left), λ p. p)
 
 pub call-gate-spec : {M : Type 1} → statement M
 call-gate-spec =

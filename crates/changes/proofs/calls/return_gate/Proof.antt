@@ -37,17 +37,17 @@ row-is c w fixed values labels words marks =
     rw (newest-is _, gate, kept-pair _ gate, ← c .before .before .join .ensures, ← c .before .meet .ensures, ← c .flows-to .ensures)
 
 returns : tie.Need-returns
-returns c w fixed values labels =
-    record { is = λ words marks. rw (row-is (c .before) w fixed values labels words marks, c .if2 .taken); fits = λ p. tt }
+returns c =
+    (λ w fixed values labels words marks. rw (row-is (c .before) w fixed values labels words marks, c .if2 .taken), λ p. tt)
 
 returns-2 : tie.Need-returns-2
-returns-2 c w fixed values labels =
-    record { is = λ words marks. rw (row-is (c .before) w fixed values labels words marks, c .if2 .left); fits = λ p. p }
+returns-2 c =
+    (λ w fixed values labels words marks. rw (row-is (c .before) w fixed values labels words marks, c .if2 .left), λ p. p)
 
 returns-3 : tie.Need-returns-3
 unfolding table mayReturn
-returns-3 c w fixed values labels =
-    record { is = λ words marks. rw (newest-is _, sym (c .before .is-gate .ensures) ∙ c .if1 .left); fits = λ p. p }
+returns-3 c =
+    (λ w fixed values labels words marks. rw (newest-is _, sym (c .before .is-gate .ensures) ∙ c .if1 .left), λ p. p)
 
 pub return-gate-spec : {M : Type 1} → statement M
 return-gate-spec =

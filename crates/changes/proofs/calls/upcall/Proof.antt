@@ -46,8 +46,8 @@ is-upcall-requires c κs = search needs
 
 returns : tie.Need-returns
 unfolding table mayUpcall newPairAllowed valueAt labelAt
-returns c fixed =
-    record { is = λ words marks. rw (in-upcall _, sym (c .before .is-upcall .ensures) ∙ c .if1 .taken); fits = λ p. p }
+returns c =
+    (λ fixed words marks. rw (in-upcall _, sym (c .before .is-upcall .ensures) ∙ c .if1 .taken), λ p. p)
 
 element-copy-out-new-pair-allowed : tie.Need-element-copy-out-new-pair-allowed
 element-copy-out-new-pair-allowed c = search needs
@@ -130,34 +130,28 @@ row-is c fixed words marks =
     )
 
 returns-2 : tie.Need-returns-2
-returns-2 c fixed =
+returns-2 c =
     let tried = c .before .before .before .before .before in
-    record {
-      is = λ words marks. rw (row-is tried fixed words marks, c .before .before .before .before .if3 .taken, c .before .wide .ensures .0);
-      fits = λ p. (p, no-upcall tried, omega arith);
-    }
+    (λ fixed words marks. rw (row-is tried fixed words marks, c .before .before .before .before .if3 .taken, c .before .wide .ensures .0), λ p. (p, no-upcall tried, omega arith))
 
 returns-3 : tie.Need-returns-3
-returns-3 c fixed = record { is = λ words marks. rw (row-is (c .before) fixed words marks, c .if3 .left); fits = λ p. p }
+returns-3 c = (λ fixed words marks. rw (row-is (c .before) fixed words marks, c .if3 .left), λ p. p)
 
 returns-4 : tie.Need-returns-4
 unfolding table mayUpcall newPairAllowed valueAt labelAt
-returns-4 c fixed =
+returns-4 c =
     let out = c .before .before .before .before in
-    let fields = out .before .before .before .before in
-    record {
-      is =
-          λ words marks.
-          rw (
-            in-upcall _,
-            sym (out .before .is-upcall .ensures) ∙ out .if1 .left,
-            ← fields .before .before .b-of .ensures .0,
-            ← fields .before .c-of .ensures .0,
-            ← c .before .new-pair-allowed .ensures,
-            c .if2 .left,
-          );
-      fits = λ p. p;
-    }
+    let fields = out .before .before .before .before in (
+      λ fixed words marks. rw (
+        in-upcall _,
+        sym (out .before .is-upcall .ensures) ∙ out .if1 .left,
+        ← fields .before .before .b-of .ensures .0,
+        ← fields .before .c-of .ensures .0,
+        ← c .before .new-pair-allowed .ensures,
+        c .if2 .left,
+      ),
+      λ p. p,
+    )
 
 pub upcall-spec : {M : Type 1} → statement M
 upcall-spec =

@@ -66,31 +66,25 @@ row-is c fixed words marks =
     )
 
 returns : tie.Need-returns
-returns c fixed =
+returns c =
     let tried = c .before .before in
-    record {
-      is = λ words marks. rw (row-is tried fixed words marks, c .before .if2 .taken, c .label-of .ensures);
-      fits = λ p. (tried .before .before .before .before .before .before .before .a-of .ensures .1, p);
-    }
+    (λ fixed words marks. rw (row-is tried fixed words marks, c .before .if2 .taken, c .label-of .ensures), λ p. (tried .before .before .before .before .before .before .before .a-of .ensures .1, p))
 
 returns-2 : tie.Need-returns-2
-returns-2 c fixed = record { is = λ words marks. rw (row-is (c .before) fixed words marks, c .if2 .left); fits = λ p. p }
+returns-2 c = (λ fixed words marks. rw (row-is (c .before) fixed words marks, c .if2 .left), λ p. p)
 
 returns-3 : tie.Need-returns-3
 unfolding table writable valueAt labelAt
-returns-3 c fixed =
-    let fields = c .before .before .before .before in
-    record {
-      is =
-          λ words marks.
-          rw (
-            ← fields .before .a-of .ensures .0,
-            ← fields .b-of .ensures .0,
-            ← c .before .may-become .ensures,
-            c .if1 .left,
-          );
-      fits = λ p. p;
-    }
+returns-3 c =
+    let fields = c .before .before .before .before in (
+      λ fixed words marks. rw (
+        ← fields .before .a-of .ensures .0,
+        ← fields .b-of .ensures .0,
+        ← c .before .may-become .ensures,
+        c .if1 .left,
+      ),
+      λ p. p,
+    )
 
 pub set-label-spec : {M : Type 1} → statement M
 set-label-spec =

@@ -76,26 +76,23 @@ row-is c fixed words marks =
     )
 
 returns : tie.Need-returns
-returns c fixed = record { is = λ words marks. rw (row-is (c .before) fixed words marks, c .if2 .taken); fits = λ p. p }
+returns c = (λ fixed words marks. rw (row-is (c .before) fixed words marks, c .if2 .taken), λ p. p)
 
 returns-2 : tie.Need-returns-2
-returns-2 c fixed = record { is = λ words marks. rw (row-is (c .before) fixed words marks, c .if2 .left); fits = λ p. p }
+returns-2 c = (λ fixed words marks. rw (row-is (c .before) fixed words marks, c .if2 .left), λ p. p)
 
 returns-3 : tie.Need-returns-3
 unfolding table newPairAllowed valueAt labelAt
-returns-3 c fixed =
-    let fields = c .before .before .before .before .before .before in
-    record {
-      is =
-          λ words marks.
-          rw (
-            ← fields .before .b-of .ensures .0,
-            ← fields .c-of .ensures .0,
-            ← c .before .new-pair-allowed .ensures,
-            c .if1 .left,
-          );
-      fits = λ p. p;
-    }
+returns-3 c =
+    let fields = c .before .before .before .before .before .before in (
+      λ fixed words marks. rw (
+        ← fields .before .b-of .ensures .0,
+        ← fields .c-of .ensures .0,
+        ← c .before .new-pair-allowed .ensures,
+        c .if1 .left,
+      ),
+      λ p. p,
+    )
 
 pub set-pair-spec : {M : Type 1} → statement M
 set-pair-spec =
