@@ -50,9 +50,9 @@ use Rattle.pacing.specs.declared.Pace.{Pace}
 use Rattle.pacing.specs.declared.Pace.the-variants.{Once, Onward, Stride}
 use Rattle.pacing.specs.Pace.{isOnce, isStride, tickOf, relabelsAt}
 use Rattle.pacing.specs.Fitting.{isTimely, InRanges}
-use Rattle.pacing.specs.Turned.{setsLabel}
+use Rattle.pacing.specs.SetsLabel.{setsLabel}
 use Rattle.pacing.proofs.Ticks.{tick-limit, tick-own, tick-here}
-use Rattle.pacing.proofs.Mirroring.{keeps-labels}
+use Rattle.pacing.proofs.Keeping.{keeps-labels}
 use Rattle.engine.specs.declared.Task.{Task}
 use Rattle.engine.specs.Stride.{fetchesRelabelling, ends, stride, runCount, strode}
 use Rattle.engine.specs.Advance.{paced}

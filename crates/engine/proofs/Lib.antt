@@ -3,3 +3,4 @@
 pub mod Skimming
 pub mod Settling
 pub mod Driving
+mod Mirroring

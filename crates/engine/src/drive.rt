@@ -1,5 +1,6 @@
 // The steps of a machine that fits: the hot loop, then one step of what it stopped at, in turn.
 use crate::Task;
+use crate::turned::turn;
 use decisions::decide;
 use labels::Bits;
 use model::Control;
@@ -10,8 +11,7 @@ use pacing::is_stride;
 use pacing::looked_at;
 use pacing::relabels;
 use pacing::tick_of;
-use pacing::turned::sets_label;
-use pacing::turned::turn;
+use pacing::setting::sets_label;
 use parts::live::Live;
 use parts::live::control_of;
 use parts::live::deadline_of;

@@ -2,6 +2,7 @@
 // the run to a tick share it. The ranges that the steps rest on, and that memory is lent whole, are tested first; where
 // that doesn't hold, nothing is done.
 mod drive;
+mod turned;
 
 use drive::drive;
 use labels::Bits;

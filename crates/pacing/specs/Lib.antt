@@ -1,3 +1,3 @@
 pub mod Pace
 pub mod Fitting
-pub mod Turned
+pub mod SetsLabel

@@ -17,7 +17,7 @@ use Rattle.sprint.specs.declared.Place.{Place}
 use Rattle.sprint.specs.Sprint.{Mirrors}
 use Rattle.pacing.specs.declared.Pace.{Pace}
 use Rattle.pacing.specs.Pace.{isOnce, isStride}
-use Rattle.pacing.specs.Turned.{setsLabel}
+use Rattle.pacing.specs.SetsLabel.{setsLabel}
 use Rattle.engine.specs.declared.Task.{Task}
 use Rattle.engine.specs.Inner.Drive.{contextOf, Driven}
 use Rattle.engine.proofs.Driving.{Went, Due, Asked, Going, going-start, past-start, driven-from, due-of, alone-asks, deadline-limited, ends-as, first-or-more, ticksLeft, went-ended, ran, few-left, clock-there-limited, went-paused, applies-there, went-barred, fewer, went-single, went-more, still-mirrors}

@@ -1,8 +1,7 @@
--- Laws about the labels of the registers turned: what holds whenever the test of the loop over them is reached, and which
--- decisions leave them as they are.
+-- The loop over the labels of the registers: what holds whenever its test is reached.
 -- Assumes nothing.
 use Prim.Native.Nat.{ℕ, _+_, _≤_, _<_}
-use mathlib.Core.Path.{_≡_, refl, sym, subst, _∙_}
+use mathlib.Core.Path.{_≡_, sym, subst, _∙_}
 use mathlib.Core.Logic.{⊎-elim}
 use mathlib.Core.Bool.{true, false}
 use mathlib.Core.List.{List}
@@ -13,16 +12,8 @@ use lib.Seq.{getD-set-same, getD-set-other}
 use borrow.Author.Tests.{eqb-true, eqb-false, ltb-true, ltb-false}
 use Rattle.labels.specs.Label.{labelCount, restrictions, lacking}
 use Rattle.model.specs.Numbers.{registerCount}
-use Rattle.model.specs.Record.{State}
-use Rattle.model.specs.Ops.{Write}
-use Rattle.model.specs.Step.{written, writeOf, causeAllowed, causeWrite}
-use Rattle.model.proofs.Truth.{choice, either, clash}
-use Rattle.parts.specs.declared.stages.Change.the-variants.{Pass, SetLabel, Goto, Enter, OpenUpcall, OpenGate, CloseGate, Stop}
-use Rattle.parts.specs.declared.stages.Decision.{Decision}
-use Rattle.parts.specs.declared.stages.Decision.the-variants.{Spend, Stall, Close, Carry}
-use Rattle.parts.specs.Stages.{decisionOf}
+use Rattle.model.proofs.Truth.{either}
 use Rattle.sprint.specs.Sprint.{Mirrors}
-use Rattle.pacing.specs.Turned.{setsLabel}
 
 -- The first i labels are turned.
 pub record Turning (labels turned : List ℕ) (i : ℕ) : Type 0 where
@@ -98,19 +89,3 @@ turning-all t h =
       lacks = λ j k. t .lacks j (omega (arith, h, k));
       below = λ j k. t .below j (omega (arith, h, k));
     }
-
--- A decision that sets no label leaves those of the registers.
-pub keeps-labels : (s : State) (d : Decision) → setsLabel d ≡ false → written s (writeOf s (decisionOf d)) .registers .labels ≡ s .registers .labels
-unfolding written writeOf causeWrite
-keeps-labels s Spend e = refl
-keeps-labels s (Stall why) e = refl
-keeps-labels s (Close cause) e =
-    choice (λ (x : Write). written s x .registers .labels ≡ s .registers .labels) (causeAllowed s) _ _ (λ b. refl) (λ b. refl)
-keeps-labels s (Carry ticks Pass) e = refl
-keeps-labels s (Carry ticks (SetLabel a l)) e = clash refl e
-keeps-labels s (Carry ticks (Goto k)) e = refl
-keeps-labels s (Carry ticks (Enter q)) e = refl
-keeps-labels s (Carry ticks (OpenUpcall k q t)) e = refl
-keeps-labels s (Carry ticks (OpenGate k q)) e = refl
-keeps-labels s (Carry ticks CloseGate) e = refl
-keeps-labels s (Carry ticks Stop) e = refl

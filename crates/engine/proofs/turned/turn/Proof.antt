@@ -1,13 +1,13 @@
--- `pacing::turned::turn` meets its contract.
+-- `engine::turned::turn` meets its contract.
 -- Assumes nothing.
 use Prim.Native.Nat.{_-_}
 use mathlib.Core.Path.{refl}
 use native.Mathlib.Omega.{arith}
 use borrow.Author.Needs.{needs}
 use Rattle.model.specs.Numbers.{registerCount}
-use Rattle.pacing.proofs.Mirroring.{Turning, turning-none, turning-more, turning-all}
-use Rattle.pacing.proofs.turned.turn.Statement.{statement}
-use Rattle.pacing.proofs.turned.turn.Tie as tie
+use Rattle.engine.proofs.Mirroring.{Turning, turning-none, turning-more, turning-all}
+use Rattle.engine.proofs.turned.turn.Statement.{statement}
+use Rattle.engine.proofs.turned.turn.Tie as tie
 
 abbrev Inv-loop : tie.InvT-loop
 Inv-loop labels turned₀ i₀ turned i = Turning labels turned i
