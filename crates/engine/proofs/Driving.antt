@@ -35,12 +35,13 @@ use Rattle.parts.specs.Calls.{newestOf, nearer, deadlineOf}
 use Rattle.parts.specs.Live.{callOf, controlOf, Stacked, Lives}
 use Rattle.parts.specs.Stages.{isCommonOp, decisionOf, planFor, HasNext, Applies}
 use Rattle.parts.proofs.Frames.{newest-is}
+use Rattle.turns.specs.declared.Context.{Context}
+use Rattle.turns.specs.Turned.{Mirrors}
+use Rattle.turns.specs.Ticks.{Timing}
 use Rattle.sprint.specs.Skim.{isCommon, Skim, skim}
-use Rattle.sprint.specs.declared.Context.{Context}
 use Rattle.sprint.specs.declared.Pause.{Pause}
 use Rattle.sprint.specs.declared.Place.{Place}
-use Rattle.sprint.specs.Sprint.{Mirrors, stateWith, Timed, Overdue, Stopped, Paused, Ran, Sprinted}
-use Rattle.sprint.specs.Inner.Turns.{Timing}
+use Rattle.sprint.specs.Sprint.{stateWith, Timed, Overdue, Stopped, Paused, Ran, Sprinted}
 use Rattle.decisions.specs.Decisions.{decided}
 use Rattle.transitions.specs.Transitions as transitions
 use Rattle.transitions.specs.Transitions.{writtenBack}

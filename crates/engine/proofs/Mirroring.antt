@@ -13,7 +13,7 @@ use borrow.Author.Tests.{eqb-true, eqb-false, ltb-true, ltb-false}
 use Rattle.labels.specs.Label.{labelCount, restrictions, lacking}
 use Rattle.model.specs.Numbers.{registerCount}
 use Rattle.model.proofs.Truth.{either}
-use Rattle.sprint.specs.Sprint.{Mirrors}
+use Rattle.turns.specs.Turned.{Mirrors}
 
 -- The first i labels are turned.
 pub record Turning (labels turned : List ℕ) (i : ℕ) : Type 0 where

@@ -2,11 +2,11 @@
 use labels::Bits;
 use labels::Label;
 use model::numbers::REGISTER_COUNT;
-use sprint::TURNED_COUNT;
+use turns::TURNED_COUNT;
 ghost use Prim.Native.Nat.{_<_};
 ghost use mathlib.Core.Path.{_≡_};
 ghost use Rattle.labels.specs.Label.{labelCount, lacking};
-ghost use Rattle.sprint.specs.Sprint.{Mirrors};
+ghost use Rattle.turns.specs.Turned.{Mirrors};
 
 // What stands in the turned labels before they are filled.
 const UNTURNED: Bits = 0;

@@ -21,12 +21,13 @@ use Rattle.model.proofs.Truth.{clash, or-iff, or-true}
 use Rattle.model.proofs.Ready.{whole-lengths, whole-lent}
 use Rattle.parts.specs.declared.stages.Reason.{Reason}
 use Rattle.parts.specs.declared.stages.Reason.the-variants.{Out, Late, Outside, Unreadable, Failed, Rest}
-use Rattle.sprint.specs.declared.Context.{Context}
+use Rattle.turns.specs.declared.Context.{Context}
 use Rattle.sprint.specs.declared.Place.{Place}
 use Rattle.sprint.specs.declared.Pause.{Pause}
-use Rattle.sprint.specs.declared.Turn.{Turn}
+use Rattle.turns.specs.declared.Turn.{Turn}
+use Rattle.turns.specs.Turned.{Mirrors}
 use Rattle.sprint.specs.Skim.{isCommon, Skim, skim}
-use Rattle.sprint.specs.Sprint.{Mirrors, stateWith, Timed, Stopped, Paused, Ran, Sprinted}
+use Rattle.sprint.specs.Sprint.{stateWith, Timed, Stopped, Paused, Ran, Sprinted}
 use Rattle.sprint.specs.Inner.Turns.{Did}
 
 -- ---- one step more

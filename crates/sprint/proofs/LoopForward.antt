@@ -1,6 +1,6 @@
 -- Laws about the turns that functions of the hot loop answer: one that did a step took a tick or more, and fewer than
 -- were left. Assumes nothing.
-use Prim.Native.Nat.{ℕ, _+_, _<_}
+use Prim.Native.Nat.{ℕ, _<_}
 use mathlib.Core.Path.{_≡_, sym, subst}
 use mathlib.Core.Bool.{Bool, not, _&&_, false≢true}
 use native.Mathlib.Omega.{arith}
@@ -9,9 +9,10 @@ use lib.Dec.{ltb}
 use Rattle.model.proofs.Truth.{choice}
 use Rattle.parts.specs.declared.stages.Reason.{Reason}
 use Rattle.parts.specs.declared.stages.Reason.the-variants.{Late, Failed}
-use Rattle.sprint.specs.declared.Spot.{Spot}
-use Rattle.sprint.specs.declared.Turn.{Turn}
-use Rattle.sprint.specs.Inner.Turns.{going, stopping, timed, gone, Forward}
+use Rattle.turns.specs.declared.Spot.{Spot}
+use Rattle.turns.specs.declared.Turn.{Turn}
+use Rattle.turns.specs.Turns.{next, going, stopping, timed, gone}
+use Rattle.sprint.specs.Inner.Turns.{Forward}
 
 module _ (spot : Spot) where
   -- A turn that did no step.
@@ -40,5 +41,5 @@ module _ (spot : Spot) where
         subst (Forward spot) (sym e)
         (choice (Forward spot) (ok && taken) (timed 1 target (spot .left)) _ (λ q. in-time 1 target (omega arith))
         (λ q.
-        choice (Forward spot) (not ok && up) (stopping Failed) (timed 1 (spot .pc + 1) (spot .left)) (λ x. stays Failed)
-        (λ x. in-time 1 (spot .pc + 1) (omega arith))))
+        choice (Forward spot) (not ok && up) (stopping Failed) (timed 1 (next spot) (spot .left)) (λ x. stays Failed)
+        (λ x. in-time 1 (next spot) (omega arith))))

@@ -1,4 +1,4 @@
--- Laws about the numbers of ops: those that are no common op's, and the fields of a word.
+-- Laws about the numbers of ops: those that are no common op's, and the op of a fetched word.
 -- Assumes nothing.
 use Prim.Native.Nat.{ℕ, zero, suc, _+_, _≤_, _<_}
 use mathlib.Core.Path.{_≡_, refl, sym, ap, _∙_}
@@ -10,28 +10,10 @@ use native.Mathlib.Omega.{arith}
 use lib.Dec.{ltb}
 use lib.ListN.{length, take, drop, getElem?}
 use borrow.Author.Tests.{ltb-true, ltb-false}
-use Rattle.model.specs.Numbers.{registerCount}
-use Rattle.model.specs.Word.{Op, ops, opField, aField, bField, cField, nField, decode}
+use Rattle.model.specs.Word.{Op, ops, opField, decode}
 use Rattle.model.specs.Step.{Fetched, fetched, known}
 use Rattle.model.proofs.Truth.{either}
 use Rattle.parts.specs.Stages.{isCommonOp, fetchesCommon}
-
--- ---- the fields of a word
-
--- The register number a.
-pub a-below : (w : ℕ) → aField w < registerCount
-unfolding aField
-a-below w = omega arith
-
--- The register number b.
-pub b-below : (w : ℕ) → bField w < registerCount
-unfolding bField
-b-below w = omega arith
-
--- The register number c.
-pub c-below : (w : ℕ) → cField w < registerCount
-unfolding cField nField
-c-below w = omega arith
 
 -- ---- numbers that a `match` leaves for its last arm
 

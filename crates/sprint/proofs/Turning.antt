@@ -22,14 +22,17 @@ use Rattle.parts.specs.declared.stages.Reason.{Reason}
 use Rattle.parts.specs.declared.stages.Reason.the-variants.{Late, Failed}
 use Rattle.parts.specs.Calls.{deadlineOf}
 use Rattle.parts.specs.Stages.{isCommonOp, fetchesCommon}
-use Rattle.sprint.specs.declared.Context.{Context}
-use Rattle.sprint.specs.declared.Spot.{Spot}
-use Rattle.sprint.specs.declared.Turn.{Turn}
+use Rattle.turns.specs.declared.Context.{Context}
+use Rattle.turns.specs.declared.Spot.{Spot}
+use Rattle.turns.specs.declared.Turn.{Turn}
+use Rattle.turns.specs.Turned.{Mirrors}
+use Rattle.turns.specs.Turns.{next, going, stopping, timed, gone, Assigned, Immediate, ClockTurn, Combined}
+use Rattle.turns.proofs.Assigning.{assigned-is}
+use Rattle.turns.proofs.Checks.{Holds, Lacks, one-goes, both-go, two-go, three-go, three-go-right}
+use Rattle.turns.proofs.Fields.{a-below, b-below, c-below}
 use Rattle.sprint.specs.Skim.{isCommon}
-use Rattle.sprint.specs.Sprint.{Mirrors, stateWith, Timed, Stopped}
-use Rattle.sprint.specs.Inner.Turns.{going, stopping, timed, gone, Assigned, Immediate, ClockTurn, Combined, LoadTurn, StoreTurn, moving, Did}
-use Rattle.sprint.proofs.Checks.{Holds, Lacks, one-goes, both-go, two-go, three-go, three-go-right}
-use Rattle.sprint.proofs.Numbering.{a-below, b-below, c-below}
+use Rattle.sprint.specs.Sprint.{stateWith, Timed, Stopped}
+use Rattle.sprint.specs.Inner.Turns.{LoadTurn, StoreTurn, moving, Did}
 
 -- ---- truth values
 
@@ -253,12 +256,6 @@ module _ {s : State} {context : Context} {left w : ℕ} {op : Op} (h : Due s con
 
 -- ---- the common ops, by the numbers of their registers
 
--- An arithmetic op puts what it computes, where its check passes.
-pub assigned-if : (ok : Bool) {before after : List ℕ} {a v u ticks : ℕ} {spot : Spot} {r : Turn} → (ok ≡ true → v ≡ u)
-    → Assigned before a ok v ticks spot r after → Assigned before a ok u ticks spot r after
-assigned-if true f e = record { turn = e .turn; values = rw (← f refl) (e .values) }
-assigned-if false f e = record { turn = e .turn; values = e .values }
-
 -- These numbers stand in the word.
 pub record Fields (w a b : ℕ) : Type 0 where
   pub ra : a ≡ aField w
@@ -285,6 +282,7 @@ towards b = record { is = refl; below = b }
 pub record Here (s : State) (context : Context) (spot : Spot) (values labels turned words marks : List ℕ) : Type 0 where
   pub mirrors : Mirrors labels turned
   pub left : spot .left ≤ context .deadline + 1
+  pub short : spot .pc + 1 < 2 ^ 32
   pub timed : Timed (stateWith s context (spot .pc) (spot .left) values labels words marks) context
 
 -- In such a state.
@@ -305,6 +303,11 @@ module _ {s : State} {context : Context} {spot : Spot} {values labels turned wor
   due : Due here context (spot .left)
   due = record { timed = h .timed; clock = told-clock (spot .left) (context .deadline) (h .left) }
 
+  -- The pc behind the word is the state's next.
+  onward : next spot ≡ spot .pc + 1
+  unfolding next
+  onward = omega (arith, h .short)
+
   -- What register k holds of restrictions.
   held : (k : ℕ) → k < registerCount → Holds (getD turned k 0) (getD labels k 0)
   held k b = record { is = h .mirrors .held k b }
@@ -314,10 +317,11 @@ module _ {s : State} {context : Context} {spot : Spot} {values labels turned wor
   lacked k b = record { is = h .mirrors .lacks k b; below = h .mirrors .below k b }
 
   -- An op that sets register a.
-  sets : {op : Op} → fetch here ≡ fetched w op → isCommonOp op ≡ true → {a : ℕ} {ok : Bool} {v k : ℕ} {r : Turn} {values′ : List ℕ}
-      → Assigned values a ok v k spot r values′ → 0 < k
-      → table here w op ≡ row (ok && writable a) (does (write (value (register a) v))) k → Turns r values′ words
-  sets f c {a} {ok} {v} {k} e p t = sets-row due f c a (ok && writable a) v k (e .turn) (e .values) p t refl
+  sets : {op : Op} → fetch here ≡ fetched w op → isCommonOp op ≡ true → {ok : Bool} {v k : ℕ} {r : Turn} {values′ : List ℕ}
+      → Assigned values (aField w) ok v k spot r values′ → 0 < k
+      → table here w op ≡ row (ok && writable (aField w)) (does (write (value (register (aField w)) v))) k → Turns r values′ words
+  sets f c {ok} {v} {k} e p t =
+      sets-row due f c (aField w) (ok && writable (aField w)) v k (rw (← onward) (e .turn)) (assigned-is (a-below w) e) p t refl
 
   -- Op 1.
   pub immediate-turn : fetch here ≡ fetched w immediate → {r : Turn} {values′ : List ℕ}
@@ -346,7 +350,7 @@ module _ {s : State} {context : Context} {spot : Spot} {values labels turned wor
       let held′ = bitOr (bitOr (restrictions (context .pair .pc)) (getD turned (bField w) 0)) (restrictions (getD marks to 0)) in
       sets-row due f refl (aField w)
       (ltb to (context .size) && mayGo held′ (getD turned (aField w + registerCount) 0) && writable (aField w)) (getD words to 0) 3
-      (e .turn) (e .values) (omega arith)
+      (rw (← onward) (e .turn)) (e .values) (omega arith)
       (rw (three-go (lacked (aField w) (a-below w)) (under (context .pair .pc)) (held (bField w) (b-below w))
       (under (getD marks (getD values (bField w) 0) 0)))) refl
 
@@ -358,7 +362,7 @@ module _ {s : State} {context : Context} {spot : Spot} {values labels turned wor
       let to = getD values (bField w) 0 in
       let held′ = bitOr (bitOr (restrictions (context .pair .pc)) (getD turned (bField w) 0)) (getD turned (aField w) 0) in
       stores-row due f refl to (ltb to (context .size) && mayGo held′ (lacking (getD marks to 0))) (getD values (aField w) 0) 3
-      (e .turn) (e .words) (omega arith)
+      (rw (← onward) (e .turn)) (e .words) (omega arith)
       (rw (three-go (towards b) (under (context .pair .pc)) (held (bField w) (b-below w)) (held (aField w) (a-below w)))) refl
 
   -- Ops 11 and 12: on at n where the comparison of the registers a and b holds.
@@ -368,7 +372,7 @@ module _ {s : State} {context : Context} {spot : Spot} {values labels turned wor
       → taken ≡ holds o (getD values a 0) (getD values b 0) → n ≡ nField w → Turns r values words
   unfolding table valueAt labelAt gone
   branch-turn p f i {ok} {taken} {n} e eo ex et en =
-      goes-row due f refl ok taken n e
+      goes-row due f refl ok taken n (rw (← onward) e)
       (rw (eo, et, en, i .ra, i .rb, two-go (record { is = ex; below = p }) (held (aField w) (a-below w)) (held (bField w) (b-below w)))) refl refl
 
   -- Op 13.
@@ -377,7 +381,7 @@ module _ {s : State} {context : Context} {spot : Spot} {values labels turned wor
       → Turns r values words
   unfolding table valueAt labelAt gone
   jump-turn p f {b = b} i {ok} e eo ex =
-      goes-row due f refl ok true (getD values b 0) e (rw (eo, i .rb, one-goes (record { is = ex; below = p }) (held (bField w) (b-below w)))) refl refl
+      goes-row due f refl ok true (getD values b 0) (rw (← onward) e) (rw (eo, i .rb, one-goes (record { is = ex; below = p }) (held (bField w) (b-below w)))) refl refl
 
   -- Op 14.
   pub clock-turn : fetch here ≡ fetched w readClock → {r : Turn} {values′ : List ℕ} → ClockTurn context spot values turned r values′

@@ -2,34 +2,25 @@
 -- Assumes nothing.
 use Prim.Native.Nat.{ℕ, _+_, _-_, _≤_, _<_}
 use mathlib.Core.Path.{_≡_}
-use mathlib.Core.Bool.{Bool, true, false}
+use mathlib.Core.Bool.{true, false}
 use mathlib.Core.List.{List}
-use lib.Bits.{bitOr}
-use lib.ListN.{getD}
-use Rattle.labels.specs.Principals.{mayGo}
-use Rattle.labels.specs.Label.{labelCount, restrictions, lacking}
-use Rattle.model.specs.Numbers.{registerCount, outsideMemory, unreadable, byFailure}
+use Rattle.model.specs.Numbers.{outsideMemory, unreadable, byFailure}
 use Rattle.model.specs.Record.{State, lent, stateFrom, inUpcall}
 use Rattle.model.specs.WellFormed.{lentWhole}
-use Rattle.model.specs.Word.{Op, immediate, arithmetic, load, store, branch, jump, readClock, setLabel, setPair, upcall, endUpcall, gateCall, gateReturn, halt, opField, bField, cField, decode}
-use Rattle.model.specs.Ops.{Change, arithmeticTicks, table}
-use Rattle.model.specs.Step.{close, carry, Fetched, failed, fetched, fetch, known, endTick, attempt, plan}
+use Rattle.model.specs.Word.{Op, opField, decode}
+use Rattle.model.specs.Ops.{Change, table}
+use Rattle.model.specs.Step.{close, carry, failed, fetched, fetch, known, endTick, attempt, plan}
 use Rattle.parts.specs.declared.stages.Reason.{Reason}
 use Rattle.parts.specs.declared.stages.Reason.the-variants.{Out, Late, Outside, Unreadable, Failed, Rest}
 use Rattle.parts.specs.Calls.{deadlineOf}
 use Rattle.parts.specs.Stages.{isCommonOp, fetchesCommon}
-use Rattle.sprint.specs.declared.Context.{Context}
+use Rattle.turns.specs.declared.Context.{Context}
+use Rattle.turns.specs.Turned.{Mirrors}
 use Rattle.sprint.specs.declared.Place.{Place}
 use Rattle.sprint.specs.declared.Pause.{Pause}
 use Rattle.sprint.specs.Skim.{skim}
 
 -- ---- what the loop is told
-
--- The turned labels are those of the registers: the restrictions of each, and behind them those that each lacks.
-pub record Mirrors (labels turned : List ℕ) : Type 0 where
-  pub held : (i : ℕ) → i < registerCount → getD turned i 0 ≡ restrictions (getD labels i 0)
-  pub lacks : (i : ℕ) → i < registerCount → getD turned (i + registerCount) 0 ≡ lacking (getD labels i 0)
-  pub below : (i : ℕ) → i < registerCount → getD labels i 0 < labelCount
 
 -- The state s with what the loop holds in its place: size, pair, pc, clock, registers and memory. The clock is told by
 -- the ticks that are left to the deadline, the present one counted.
@@ -107,33 +98,3 @@ pub record Sprinted (context : Context) (start : Place) (values turned words mar
       → Timed (stateWith s context (start .pc) (start .left) values labels words marks) context
       → Ran (stateWith s context (start .pc) (start .left) values labels words marks)
       (stateWith s context (r .place .pc) (r .place .left) values′ labels words′ marks) (context .deadline) (start .left) (r .place .left) (r .reason)
-
--- ---- the ticks of a common op
-
--- By the op, by whether its operands may show in the time, and by Rc. Of what is no common op 1 is said.
-abbrev pub commonTicks : Op → Bool → ℕ → ℕ
-commonTicks immediate visible v = 1
-commonTicks (arithmetic f) visible v = arithmeticTicks f visible v
-commonTicks load visible v = 3
-commonTicks store visible v = 3
-commonTicks (branch f) visible v = 1
-commonTicks jump visible v = 1
-commonTicks readClock visible v = 1
-commonTicks (setLabel f) visible v = 1
-commonTicks setPair visible v = 1
-commonTicks upcall visible v = 1
-commonTicks endUpcall visible v = 1
-commonTicks gateCall visible v = 1
-commonTicks gateReturn visible v = 1
-commonTicks halt visible v = 1
-
--- The same of a word that may have no op.
-abbrev pub fetchedTicks : Fetched → Bool → ℕ → ℕ
-fetchedTicks (failed why) visible v = 1
-fetchedTicks (fetched w op) visible v = commonTicks op visible v
-
--- The ticks of the word w under the timing label t, with these registers.
-unfoldable pub ticksAt : ℕ → ℕ → List ℕ → List ℕ → ℕ
-ticksAt w t values turned =
-    fetchedTicks (known w (decode (opField w)))
-    (mayGo (bitOr (getD turned (bField w) 0) (getD turned (cField w) 0)) (lacking t)) (getD values (cField w) 0)

@@ -7,26 +7,15 @@ mod ops;
 use labels::Bits;
 use labels::Label;
 use labels::may_go;
-use model::Pair;
 use model::numbers::REGISTER_COUNT;
 use ops::common;
-pub use ops::ticks_at;
 use parts::stages::Reason;
 use parts::word::index;
+use turns::Context;
+use turns::Spot;
+use turns::TURNED_COUNT;
 ghost use Rattle.sprint.specs.Sprint.{Sprinted};
 ghost use mathlib.Core.Path.{_≡_};
-
-// For each register the restrictions of its label, and behind them for each those that its label lacks.
-pub const TURNED_COUNT: usize = 32;
-
-// What stays the same while the hot loop runs: the size, the pair, whether an upcall is open, and the tick by which an op
-// has to finish.
-pub struct Context {
-    pub size: u32,
-    pub pair: Pair,
-    pub up: bool,
-    pub deadline: u32,
-}
 
 // Where the loop stands: the pc, and how many ticks are left to the deadline, the present one counted.
 pub struct Place {
@@ -37,21 +26,6 @@ pub struct Place {
 // Where the loop stopped, and why.
 pub struct Pause {
     pub place: Place,
-    pub reason: Reason,
-}
-
-// A fetched word, with the place where it was fetched.
-pub struct Spot {
-    pub word: u32,
-    pub pc: u32,
-    pub left: u32,
-}
-
-// One turn of the loop: whether it did a step, the pc that it left and the ticks that it took, and else why it stopped.
-pub struct Turn {
-    pub done: bool,
-    pub pc: u32,
-    pub ticks: u32,
     pub reason: Reason,
 }
 

@@ -1,11 +1,4 @@
 // Ops 9 and 10, between a register and memory.
-use crate::Context;
-use crate::Spot;
-use crate::TURNED_COUNT;
-use crate::Turn;
-use crate::ops::assign;
-use crate::ops::going;
-use crate::ops::stopping;
 use labels::Bits;
 use labels::Label;
 use labels::may_go;
@@ -14,7 +7,15 @@ use parts::stages::Reason;
 use parts::word::a_of;
 use parts::word::b_of;
 use parts::word::index;
-ghost use Prim.Native.Nat.{_+_, _^_, _≤_, _<_};
+use turns::Context;
+use turns::Spot;
+use turns::TURNED_COUNT;
+use turns::Turn;
+use turns::assign;
+use turns::going;
+use turns::next;
+use turns::stopping;
+ghost use Prim.Native.Nat.{_≤_};
 ghost use mathlib.Core.Path.{_≡_};
 ghost use mathlib.Core.Bool.{_&&_, cond};
 ghost use lib.Dec.{ltb};
@@ -32,7 +33,7 @@ pub(in crate) fn load(
     words: &[u32],
     marks: &[Bits],
 ) -> Turn
-    requires { ⌜ (spot .pc + 1 < 2 ^ 32) × (context .size ≤ length (now words)) × (context .size ≤ length (now marks)) ⌝ }
+    requires { ⌜ (context .size ≤ length (now words)) × (context .size ≤ length (now marks)) ⌝ }
     ensures { λ r. ⌜ LoadTurn context spot (now (values .entry)) (now (turned .entry)) (now (words .entry)) (now (marks .entry)) r (now (values .exit)) ⌝ }
 {
     let pair = context.pair;
@@ -70,7 +71,7 @@ pub(in crate) fn store(
     words: &mut [u32],
     marks: &[Bits],
 ) -> Turn
-    requires { ⌜ (spot .pc + 1 < 2 ^ 32) × (context .size ≤ length (now words)) × (context .size ≤ length (now marks)) ⌝ }
+    requires { ⌜ (context .size ≤ length (now words)) × (context .size ≤ length (now marks)) ⌝ }
     ensures { λ r. ⌜ StoreTurn context spot (now (values .entry)) (now (turned .entry)) (now (words .entry)) (now (marks .entry)) r (now (words .exit)) ⌝ }
 {
     let pair = context.pair;
@@ -79,7 +80,7 @@ pub(in crate) fn store(
     if 3 < spot.left {
         let held = Label(pair.pc).restrictions() | turned[b] | turned[a];
         put_word(words, marks, context.size, values[b], held, values[a]);
-        return going(spot.pc + 1, 3);
+        return going(next(spot), 3);
     }
     stopping(Reason::Late)
 }

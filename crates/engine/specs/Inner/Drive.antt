@@ -12,8 +12,8 @@ use Rattle.parts.specs.declared.live.Live.{Live}
 use Rattle.parts.specs.declared.stages.Decision.{Decision}
 use Rattle.parts.specs.declared.stages.Decision.the-variants.{Spend, Stall, Close, Carry}
 use Rattle.parts.specs.Live.{callOf}
-use Rattle.sprint.specs.declared.Context.{Context}
-use Rattle.sprint.specs.Inner.Turns.{Timing}
+use Rattle.turns.specs.declared.Context.{Context}
+use Rattle.turns.specs.Ticks.{Timing}
 use Rattle.engine.specs.declared.Task.{Task}
 use Rattle.engine.specs.Advance.{paced}
 

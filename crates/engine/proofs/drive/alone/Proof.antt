@@ -3,8 +3,8 @@
 use native.Mathlib.Omega.{arith}
 use lib.ListN.{getD}
 use borrow.Author.Needs.{needs}
-use Rattle.sprint.specs.Inner.Turns.{Timing}
-use Rattle.sprint.proofs.Ticks.{timing-is}
+use Rattle.turns.specs.Ticks.{Timing}
+use Rattle.turns.proofs.Ticks.{timing-is}
 use Rattle.engine.proofs.Driving.{alone-first, alone-own, alone-outside}
 use Rattle.engine.proofs.drive.alone.Statement.{statement}
 use Rattle.engine.proofs.drive.alone.Tie as tie

@@ -12,9 +12,9 @@ use Rattle.model.specs.declared.Control.{Control}
 use Rattle.model.specs.Numbers.{mostTicks}
 use Rattle.parts.specs.Live.{controlOf, Lives}
 use Rattle.parts.proofs.Frames as frames
-use Rattle.sprint.specs.declared.Context.{Context}
+use Rattle.turns.specs.declared.Context.{Context}
+use Rattle.turns.specs.Turned.{Mirrors}
 use Rattle.sprint.specs.declared.Place.{Place}
-use Rattle.sprint.specs.Sprint.{Mirrors}
 use Rattle.pacing.specs.declared.Pace.{Pace}
 use Rattle.pacing.specs.Pace.{isOnce, isStride}
 use Rattle.pacing.specs.SetsLabel.{setsLabel}

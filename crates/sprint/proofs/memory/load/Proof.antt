@@ -2,6 +2,7 @@
 -- Assumes nothing.
 use borrow.Author.Tests.{lt-ltb, le-ltb}
 use borrow.Author.Needs.{needs}
+use Rattle.turns.proofs.Assigning.{assigned-is}
 use Rattle.sprint.proofs.memory.load.Statement.{statement}
 use Rattle.sprint.proofs.memory.load.Tie as tie
 
@@ -66,7 +67,7 @@ returns c =
             ← check .before .before .before .before .before .restrictions .ensures,
             ← check .before .before .restrictions2 .ensures,
             ← check .may-go .ensures,
-          ) (c .assign .ensures .values);
+          ) (assigned-is (fields .before .a-of .ensures .1) (c .assign .ensures));
     }
 
 assign-requires-2 : tie.Need-assign-requires-2

@@ -35,8 +35,8 @@ element-copy-out-put-word-2 c = search needs
 put-word-requires : tie.Need-put-word-requires
 put-word-requires c κs = search needs
 
-add-going : tie.Need-add-going
-add-going c = search needs
+next-requires : tie.Need-next-requires
+next-requires c κs = search needs
 
 going-requires : tie.Need-going-requires
 going-requires c κs = search needs
@@ -51,7 +51,7 @@ returns c =
     let fields = timely .before .before in
     let in-time = lt-ltb _ _ (timely .if1 .taken) in
     record {
-      turn = rw in-time (c .going .ensures);
+      turn = rw (in-time, ← c .before .next .ensures) (c .going .ensures);
       words =
           rw (← fields .before .a-of .ensures .0, ← fields .b-of .ensures .0, in-time, ← put .before .before .before .before .before .before .restrictions .ensures)
           (put .put-word .ensures);
@@ -77,7 +77,7 @@ store-spec =
     mul-put-word-2
     element-copy-out-put-word-2
     put-word-requires
-    add-going
+    next-requires
     going-requires
     same-length
     returns

@@ -13,9 +13,11 @@ use Rattle.model.specs.Record.{State}
 use Rattle.model.specs.Word.{Op, Arithmetic, arithmetic, opField, decode}
 use Rattle.model.specs.Step.{Fetched, known, fetched}
 use Rattle.parts.specs.declared.stages.Reason.the-variants.{Rest}
-use Rattle.sprint.specs.declared.Turn.{Turn}
-use Rattle.sprint.specs.Sprint.{Mirrors, stateWith, Timed}
-use Rattle.sprint.specs.Inner.Turns.{Combined, Common, Forward}
+use Rattle.turns.specs.declared.Turn.{Turn}
+use Rattle.turns.specs.Turned.{Mirrors}
+use Rattle.turns.specs.Turns.{Combined}
+use Rattle.sprint.specs.Sprint.{stateWith, Timed}
+use Rattle.sprint.specs.Inner.Turns.{Common, Forward}
 use Rattle.sprint.proofs.Numbering.{op-of, no-op, none-uncommon, uncommon}
 use Rattle.sprint.proofs.Turning.{Here, Fields, immediate-turn, arithmetic-turn, load-turn, store-turn, branch-turn, jump-turn, clock-turn, stays}
 use lib.Dec.{lit≤}
@@ -45,7 +47,7 @@ told : (c : tie.After-op-of) (s : State) (labels : List ℕ) → Mirrors labels 
     → started c .args .spot .left ≤ started c .args .context .deadline + 1 → Timed (held c s labels) (started c .args .context)
     → Here s (started c .args .context) (started c .args .spot) (now (started c .args .values)) labels (now (started c .args .turned))
     (now (started c .args .words)) (now (started c .args .marks))
-told c s labels m l t = record { mirrors = m; left = l; timed = t }
+told c s labels m l t = record { mirrors = m; left = l; short = omega (arith, started c .pre); timed = t }
 
 -- The numbers of the word's registers.
 fields : (c : tie.After-op-of)

@@ -1,9 +1,9 @@
--- `sprint::ops::combine` meets its contract.
+-- `turns::combine` meets its contract.
 -- Assumes nothing.
 use borrow.Author.Needs.{needs}
-use Rattle.sprint.proofs.Turning.{assigned-if}
-use Rattle.sprint.proofs.ops.combine.Statement.{statement}
-use Rattle.sprint.proofs.ops.combine.Tie as tie
+use Rattle.turns.proofs.Assigning.{assigned-if}
+use Rattle.turns.proofs.combine.Statement.{statement}
+use Rattle.turns.proofs.combine.Tie as tie
 
 a-of-requires : tie.Need-a-of-requires
 a-of-requires c κs = search needs

@@ -1,27 +1,25 @@
 -- Laws about the ticks of the common ops: the ticks by an op's number are those of the model's row.
 -- Assumes nothing.
 use Prim.Native.Nat.{ℕ, zero, suc, _+_, _≤_, _<_}
-use mathlib.Core.Path.{_≡_, refl, sym, ap, ap₂, _∙_, subst}
-use mathlib.Core.Bool.{Bool, true, false, _&&_, false≢true}
+use mathlib.Core.Path.{_≡_, refl, ap, _∙_}
+use mathlib.Core.Bool.{Bool, true, false, false≢true}
 use mathlib.Core.List.{List, [], _∷_}
 use mathlib.Core.Option.{Option, none, some}
 use native.Mathlib.Omega.{arith}
 use lib.Bits.{bitOr}
 use lib.ListN.{getD, getElem?}
 use Rattle.labels.specs.Principals.{mayGo}
-use Rattle.labels.specs.Label.{principals, labelCount, lacking, flows}
-use Rattle.labels.proofs.Whole.{restricted-flows, or-may-go}
-use Rattle.model.specs.Numbers.{registerCount}
+use Rattle.labels.specs.Label.{labelCount, lacking}
 use Rattle.model.specs.Record.{State, valueAt, labelAt}
 use Rattle.model.specs.Word.{add, subtract, and, or, xor, less, multiply, divide, remainder, equal, below, raise, relabel, Op, immediate, arithmetic, load, store, branch, jump, readClock, setLabel, setPair, upcall, endUpcall, gateCall, gateReturn, halt, ops, opField, bField, cField, decode}
 use Rattle.model.specs.Ops.{multiplyTicks, arithmeticTicks, visible, table}
 use Rattle.model.proofs.Multiply.{count-le}
 use Rattle.model.specs.Step.{Fetched, failed, fetched, known}
 use Rattle.parts.specs.Stages.{isCommonOp}
-use Rattle.sprint.specs.Sprint.{Mirrors, commonTicks, fetchedTicks, ticksAt}
-use Rattle.sprint.specs.Inner.Turns.{Timing}
-use Rattle.sprint.proofs.Checks.{both-go}
-use Rattle.sprint.proofs.Numbering.{b-below, c-below}
+use Rattle.turns.specs.Turned.{Mirrors}
+use Rattle.turns.specs.Ticks.{commonTicks, fetchedTicks, ticksAt, Timing}
+use Rattle.turns.proofs.Checks.{both-go}
+use Rattle.turns.proofs.Fields.{b-below, c-below}
 
 -- ---- the numbers of ops
 

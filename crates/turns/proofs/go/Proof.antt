@@ -1,10 +1,10 @@
--- `sprint::ops::go` meets its contract.
+-- `turns::go` meets its contract.
 -- Assumes nothing.
 use borrow.Author.Tests.{lt-ltb, le-ltb}
 use borrow.Author.Needs.{needs}
-use Rattle.sprint.specs.Inner.Turns.{gone}
-use Rattle.sprint.proofs.ops.go.Statement.{statement}
-use Rattle.sprint.proofs.ops.go.Tie as tie
+use Rattle.turns.specs.Turns.{gone}
+use Rattle.turns.proofs.go.Statement.{statement}
+use Rattle.turns.proofs.go.Tie as tie
 
 going-requires : tie.Need-going-requires
 going-requires c κs = search needs
@@ -27,15 +27,15 @@ returns-3 : tie.Need-returns-3
 unfolding gone
 returns-3 c = rw (c .before .before .if1 .left, c .before .if3 .taken) (c .stopping2 .ensures)
 
-add-going : tie.Need-add-going
-add-going c = search needs
+next-requires : tie.Need-next-requires
+next-requires c κs = search needs
 
 going-requires-2 : tie.Need-going-requires-2
 going-requires-2 c κs = search needs
 
 returns-4 : tie.Need-returns-4
 unfolding gone
-returns-4 c = rw (c .before .before .before .before .before .if1 .left, c .before .before .before .before .if3 .left, lt-ltb _ _ (c .before .before .if4 .taken)) (c .going2 .ensures)
+returns-4 c = rw (c .before .before .before .before .before .if1 .left, c .before .before .before .before .if3 .left, lt-ltb _ _ (c .before .before .if4 .taken), ← c .before .next .ensures) (c .going2 .ensures)
 
 stopping-requires-3 : tie.Need-stopping-requires-3
 stopping-requires-3 c κs = search needs
@@ -54,7 +54,7 @@ go-spec =
     returns-2
     stopping-requires-2
     returns-3
-    add-going
+    next-requires
     going-requires-2
     returns-4
     stopping-requires-3

@@ -1,11 +1,11 @@
--- `sprint::ops::assign` meets its contract.
+-- `turns::assign` meets its contract.
 -- Assumes nothing.
 use mathlib.Core.Logic.{⊎-elim}
 use borrow.Author.Tests.{lt-ltb, le-ltb}
 use borrow.Author.Needs.{needs}
 use Rattle.model.specs.Ops.{writable}
-use Rattle.sprint.proofs.ops.assign.Statement.{statement}
-use Rattle.sprint.proofs.ops.assign.Tie as tie
+use Rattle.turns.proofs.assign.Statement.{statement}
+use Rattle.turns.proofs.assign.Tie as tie
 
 mul-values : tie.Need-mul-values
 mul-values c = search needs
@@ -13,8 +13,8 @@ mul-values c = search needs
 element-write-values : tie.Need-element-write-values
 element-write-values c = search needs
 
-add-going : tie.Need-add-going
-add-going c = search needs
+next-requires : tie.Need-next-requires
+next-requires c κs = search needs
 
 going-requires : tie.Need-going-requires
 going-requires c κs = search needs
@@ -24,8 +24,12 @@ unfolding writable
 returns c =
     let in-time = lt-ltb _ _ (c .before .before .before .if1 .taken) in
     record {
-      turn = rw in-time (c .going .ensures);
-      values = rw in-time (⊎-elim (λ h. rw (h .0 .taken) (h .1)) (λ h. rw (h .0 .left) (h .1)) (c .before .before .if2 .came));
+      turn = rw (in-time, ← c .before .next .ensures) (c .going .ensures);
+      values =
+          rw in-time
+          (⊎-elim (λ h. rw (h .0 .taken, lt-ltb _ _ (h .1 .taken)) (h .2))
+          (⊎-elim (λ h. rw (h .0 .taken, le-ltb _ _ (h .1 .left)) (h .2)) (λ h. rw (h .0 .left) (h .1)))
+          (c .before .before .if2 .came));
     }
 
 stopping-requires : tie.Need-stopping-requires
@@ -40,7 +44,7 @@ assign-spec =
     (tie.spec
     mul-values
     element-write-values
-    add-going
+    next-requires
     going-requires
     returns
     stopping-requires

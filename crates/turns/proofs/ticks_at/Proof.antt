@@ -1,11 +1,11 @@
--- `sprint::ops::ticks_at` meets its contract.
+-- `turns::ticks_at` meets its contract.
 -- Assumes nothing.
 use borrow.Author.Needs.{needs}
 use mathlib.Core.Path.{refl, _∙_}
 use Rattle.model.specs.Word.{divide, remainder, arithmetic, load, store, decode}
-use Rattle.sprint.proofs.Ticks.{brief, ticks-by, multiply-by}
-use Rattle.sprint.proofs.ops.ticks_at.Statement.{statement}
-use Rattle.sprint.proofs.ops.ticks_at.Tie as tie
+use Rattle.turns.proofs.Ticks.{brief, ticks-by, multiply-by}
+use Rattle.turns.proofs.ticks_at.Statement.{statement}
+use Rattle.turns.proofs.ticks_at.Tie as tie
 
 b-of-requires : tie.Need-b-of-requires
 b-of-requires c κs = search needs

@@ -1,10 +1,10 @@
--- `sprint::ops::computed` meets its contract.
+-- `turns::computed` meets its contract.
 -- Assumes nothing.
 use mathlib.Core.Bool.{false≢true}
 use mathlib.Core.Path.{sym, _∙_}
 use borrow.Author.Needs.{needs}
-use Rattle.sprint.proofs.ops.computed.Statement.{statement}
-use Rattle.sprint.proofs.ops.computed.Tie as tie
+use Rattle.turns.proofs.computed.Statement.{statement}
+use Rattle.turns.proofs.computed.Tie as tie
 
 compute-requires : tie.Need-compute-requires
 compute-requires c κs = search needs

@@ -1,8 +1,8 @@
--- `sprint::ops::immediate` meets its contract.
+-- `turns::immediate` meets its contract.
 -- Assumes nothing.
 use borrow.Author.Needs.{needs}
-use Rattle.sprint.proofs.ops.immediate.Statement.{statement}
-use Rattle.sprint.proofs.ops.immediate.Tie as tie
+use Rattle.turns.proofs.immediate.Statement.{statement}
+use Rattle.turns.proofs.immediate.Tie as tie
 
 a-of-requires : tie.Need-a-of-requires
 a-of-requires c κs = search needs
