@@ -33,7 +33,6 @@ ghost use lib.Dec.{ltb};
 ghost use lib.ListN.{length};
 ghost use Rattle.model.specs.Numbers.{mostTicks};
 ghost use Rattle.parts.specs.Stages.{Applies};
-ghost use Rattle.turns.specs.Turned.{Mirrors};
 ghost use Rattle.pacing.specs.Fitting.{InRanges};
 ghost use Rattle.engine.specs.Inner.Drive.{contextOf, Alone, finishOf, Driven};
 

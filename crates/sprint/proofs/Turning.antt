@@ -26,13 +26,13 @@ use Rattle.turns.specs.declared.Context.{Context}
 use Rattle.turns.specs.declared.Spot.{Spot}
 use Rattle.turns.specs.declared.Turn.{Turn}
 use Rattle.turns.specs.Turned.{Mirrors}
-use Rattle.turns.specs.Turns.{next, going, stopping, timed, gone, Assigned, Immediate, ClockTurn, Combined}
-use Rattle.turns.proofs.Assigning.{assigned-is}
+use Rattle.turns.specs.Turns.{next, going, stopping, timed, gone, taken, assigned, immediateTaken, combinedTaken}
+use Rattle.turns.proofs.Assigning.{assigned-is, assigned-turn}
 use Rattle.turns.proofs.Checks.{Holds, Lacks, one-goes, both-go, two-go, three-go, three-go-right}
 use Rattle.turns.proofs.Fields.{a-below, b-below, c-below}
 use Rattle.sprint.specs.Skim.{isCommon}
 use Rattle.sprint.specs.Sprint.{stateWith, Timed, Stopped}
-use Rattle.sprint.specs.Inner.Turns.{LoadTurn, StoreTurn, moving, Did}
+use Rattle.sprint.specs.Inner.Turns.{LoadTurn, StoreTurn, ClockTurn, moving, Did}
 
 -- ---- truth values
 
@@ -317,25 +317,25 @@ module _ {s : State} {context : Context} {spot : Spot} {values labels turned wor
   lacked k b = record { is = h .mirrors .lacks k b; below = h .mirrors .below k b }
 
   -- An op that sets register a.
-  sets : {op : Op} → fetch here ≡ fetched w op → isCommonOp op ≡ true → {ok : Bool} {v k : ℕ} {r : Turn} {values′ : List ℕ}
-      → Assigned values (aField w) ok v k spot r values′ → 0 < k
+  sets : {op : Op} → fetch here ≡ fetched w op → isCommonOp op ≡ true → (ok : Bool) (v k : ℕ) {r : Turn} {values′ : List ℕ}
+      → taken r values′ ≡ assigned values (aField w) ok v k spot → 0 < k
       → table here w op ≡ row (ok && writable (aField w)) (does (write (value (register (aField w)) v))) k → Turns r values′ words
-  sets f c {ok} {v} {k} e p t =
-      sets-row due f c (aField w) (ok && writable (aField w)) v k (rw (← onward) (e .turn)) (assigned-is (a-below w) e) p t refl
+  sets f c ok v k e p t =
+      sets-row due f c (aField w) (ok && writable (aField w)) v k (rw (← onward) (assigned-turn _ _ _ _ _ _ e)) (assigned-is _ _ _ _ _ _ (a-below w) e) p t refl
 
   -- Op 1.
   pub immediate-turn : fetch here ≡ fetched w immediate → {r : Turn} {values′ : List ℕ}
-      → Immediate spot (context .pair) values turned r values′ → Turns r values′ words
+      → taken r values′ ≡ immediateTaken spot (context .pair) values turned → Turns r values′ words
   unfolding table labelAt
   immediate-turn f e =
-      sets f refl e (omega arith) (rw (one-goes (lacked (aField w) (a-below w)) (under (context .pair .pc))))
+      sets f refl _ _ _ e (omega arith) (rw (one-goes (lacked (aField w) (a-below w)) (under (context .pair .pc))))
 
   -- The arithmetic ops.
   pub arithmetic-turn : {o : Arithmetic} → context .pair .timing < labelCount → fetch here ≡ fetched w (arithmetic o)
-      → {r : Turn} {values′ : List ℕ} → Combined o spot (context .pair) values turned r values′ → Turns r values′ words
+      → {r : Turn} {values′ : List ℕ} → taken r values′ ≡ combinedTaken o spot (context .pair) values turned → Turns r values′ words
   unfolding table valueAt labelAt
   arithmetic-turn {o} t f e =
-      sets f refl e (ticks-long o _ _)
+      sets f refl _ _ _ e (ticks-long o _ _)
       (rw (
         three-go-right (lacked (aField w) (a-below w)) (under (context .pair .pc)) (held (bField w) (b-below w)) (held (cField w) (c-below w)),
         both-go (towards t) (held (bField w) (b-below w)) (held (cField w) (c-below w)),
@@ -388,7 +388,7 @@ module _ {s : State} {context : Context} {spot : Spot} {values labels turned wor
       → Turns r values′ words
   unfolding table labelAt
   clock-turn f e =
-      sets f refl (e .assigned) (omega arith)
+      sets f refl _ _ _ (e .assigned) (omega arith)
       (rw (
         two-go (lacked (aField w) (a-below w)) (under (context .pair .pc)) (under (context .pair .timing)),
         clock-read (spot .left) (context .deadline) (h .left) (e .counted) (e .short),

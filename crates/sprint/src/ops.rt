@@ -11,21 +11,40 @@ use parts::word::a_of;
 use parts::word::b_of;
 use parts::word::n_of;
 use parts::word::op_of;
+use std::num::wrapping_add_u32;
+use std::num::wrapping_sub_u32;
 use turns::Context;
 use turns::Spot;
 use turns::TURNED_COUNT;
 use turns::Turn;
+use turns::assign;
 use turns::combine;
 use turns::go;
 use turns::immediate;
-use turns::read_clock;
 use turns::stopping;
 ghost use Prim.Native.Nat.{_^_, _≤_, _<_};
 ghost use lib.ListN.{length};
-ghost use Rattle.sprint.specs.Inner.Turns.{Common, Forward};
+ghost use Rattle.sprint.specs.Inner.Turns.{ClockTurn, Common, Forward};
 
 // A word without an op.
 const NO_OP: u32 = 0;
+
+// Op 14: register a gets the clock, which the ticks that are left tell.
+fn read_clock(
+    spot: Spot,
+    context: Context,
+    values: &mut [u32; REGISTER_COUNT],
+    turned: &[Bits; TURNED_COUNT],
+) -> Turn
+    ensures { λ r. ⌜ ClockTurn context spot (now (values .entry)) (now (turned .entry)) r (now (values .exit)) ⌝ }
+{
+    let pair = context.pair;
+    let a = a_of(spot.word);
+    let held = Label(pair.pc).restrictions() | Label(pair.timing).restrictions();
+    let ok = may_go(held, turned[a + REGISTER_COUNT]);
+    let clock = wrapping_sub_u32(wrapping_add_u32(context.deadline, 1), spot.left);
+    assign(values, spot, a, ok, clock, 1)
+}
 
 // The common op of a fetched word. Op 0 has an arm of its own, so that the arms are counted from 0 and the op's number is
 // the place of its arm. What else such a word holds doesn't matter.

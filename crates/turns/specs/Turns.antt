@@ -1,7 +1,6 @@
 -- What the ops on registers do in the hot loop, as their functions promise it: by equation, in the words of the model.
 -- Assumes nothing.
-use Prim.Native.Nat.{ℕ, _+_, _%_, _^_, _<_}
-use mathlib.Core.Path.{_≡_}
+use Prim.Native.Nat.{ℕ, _+_, _%_, _^_}
 use mathlib.Core.Bool.{Bool, true, false, not, _&&_, cond}
 use mathlib.Core.List.{List}
 use lib.Bits.{bitOr}
@@ -15,7 +14,6 @@ use Rattle.model.specs.Word.{Arithmetic, aField, bField, cField, nField, comput
 use Rattle.model.specs.Ops.{writable, arithmeticTicks}
 use Rattle.parts.specs.declared.stages.Reason.{Reason}
 use Rattle.parts.specs.declared.stages.Reason.the-variants.{Out, Late, Failed}
-use Rattle.turns.specs.declared.Context.{Context}
 use Rattle.turns.specs.declared.Spot.{Spot}
 use Rattle.turns.specs.declared.Turn.{Turn}
 
@@ -41,32 +39,32 @@ gone spot up ok taken target =
     cond (ok && taken) (timed 1 target (spot .left))
     (cond (not ok && up) (stopping Failed) (timed 1 (next spot) (spot .left)))
 
--- Register a got v if the op finishes by the deadline, the check passed, it isn't register 0 and there is one.
-pub record Assigned (before : List ℕ) (a : ℕ) (ok : Bool) (v ticks : ℕ) (spot : Spot) (r : Turn) (after : List ℕ) : Type 0 where
-  pub turn : r ≡ timed ticks (next spot) (spot .left)
-  pub values : after ≡ cond (ltb ticks (spot .left)) (cond (ok && writable a && ltb a registerCount) (set before a v) before) before
+-- A turn and the values of the registers behind it.
+pub record Taken : Type 0 where
+  pub turn : Turn
+  pub values : List ℕ
 
--- Op 1: register a got n.
-abbrev pub Immediate : Spot → Pair → List ℕ → List ℕ → Turn → List ℕ → Type 0
-Immediate spot pair before turned r after =
+-- These two.
+abbrev pub taken : Turn → List ℕ → Taken
+taken turn values = record { turn = turn; values = values }
+
+-- Register a gets v if the op finishes by the deadline, the check passed, it isn't register 0 and there is one.
+unfoldable pub assigned : List ℕ → ℕ → Bool → ℕ → ℕ → Spot → Taken
+assigned before a ok v ticks spot =
+    taken (timed ticks (next spot) (spot .left))
+    (cond (ltb ticks (spot .left)) (cond (ok && writable a && ltb a registerCount) (set before a v) before) before)
+
+-- Op 1: register a gets n.
+abbrev pub immediateTaken : Spot → Pair → List ℕ → List ℕ → Taken
+immediateTaken spot pair before turned =
     let w = spot .word in
-    Assigned before (aField w) (mayGo (restrictions (pair .pc)) (getD turned (aField w + registerCount) 0)) (nField w) 1 spot r after
+    assigned before (aField w) (mayGo (restrictions (pair .pc)) (getD turned (aField w + registerCount) 0)) (nField w) 1 spot
 
--- Op 14: register a got the clock, which makes the deadline's next tick with the ticks that are left, in 32 bits.
-pub record ClockTurn (context : Context) (spot : Spot) (before turned : List ℕ) (r : Turn) (after : List ℕ) : Type 0 where
-  pub clock : ℕ
-  pub short : clock < 2 ^ 32
-  pub counted : (clock + spot .left) % 2 ^ 32 ≡ (context .deadline + 1) % 2 ^ 32
-  pub assigned :
-      let a = aField (spot .word) in
-      let held = bitOr (restrictions (context .pair .pc)) (restrictions (context .pair .timing)) in
-      Assigned before a (mayGo held (getD turned (a + registerCount) 0)) clock 1 spot r after
-
--- An arithmetic op: register a got what f computes from the registers b and c, as the model's row has it.
-abbrev pub Combined : Arithmetic → Spot → Pair → List ℕ → List ℕ → Turn → List ℕ → Type 0
-Combined f spot pair before turned r after =
+-- An arithmetic op: register a gets what f computes from the registers b and c, as the model's row has it.
+abbrev pub combinedTaken : Arithmetic → Spot → Pair → List ℕ → List ℕ → Taken
+combinedTaken f spot pair before turned =
     let w = spot .word in
     let both = bitOr (getD turned (bField w) 0) (getD turned (cField w) 0) in
-    Assigned before (aField w) (mayGo (bitOr (restrictions (pair .pc)) both) (getD turned (aField w + registerCount) 0))
+    assigned before (aField w) (mayGo (bitOr (restrictions (pair .pc)) both) (getD turned (aField w + registerCount) 0))
     (compute f (getD before (bField w) 0) (getD before (cField w) 0))
-    (arithmeticTicks f (mayGo both (lacking (pair .timing))) (getD before (cField w) 0)) spot r after
+    (arithmeticTicks f (mayGo both (lacking (pair .timing))) (getD before (cField w) 0)) spot

@@ -16,12 +16,11 @@ use parts::word::c_of;
 use parts::word::n_of;
 use parts::word::op_of;
 use std::num::wrapping_add_u32;
-use std::num::wrapping_sub_u32;
 ghost use mathlib.Core.Path.{_≡_};
 ghost use mathlib.Core.Bool.{true};
 ghost use Rattle.model.specs.Word.{compute};
 ghost use Rattle.arithmetic.specs.Arithmetic.{arithmeticOf};
-ghost use Rattle.turns.specs.Turns.{next, going, stopping, gone, Assigned, Immediate, ClockTurn, Combined};
+ghost use Rattle.turns.specs.Turns.{next, going, stopping, gone, taken, assigned, immediateTaken, combinedTaken};
 ghost use Rattle.turns.specs.Ticks.{ticksAt};
 
 // For each register the restrictions of its label, and behind them for each those that its label lacks.
@@ -92,7 +91,7 @@ pub fn assign(
     v: u32,
     ticks: u32,
 ) -> Turn
-    ensures { λ r. ⌜ Assigned (now (values .entry)) a ok v ticks spot r (now (values .exit)) ⌝ }
+    ensures { λ r. ⌜ taken r (now (values .exit)) ≡ assigned (now (values .entry)) a ok v ticks spot ⌝ }
 {
     if ticks < spot.left {
         if ok & (ZERO_REGISTER < a) {
@@ -112,28 +111,11 @@ pub fn immediate(
     values: &mut [u32; REGISTER_COUNT],
     turned: &[Bits; TURNED_COUNT],
 ) -> Turn
-    ensures { λ r. ⌜ Immediate spot pair (now (values .entry)) (now (turned .entry)) r (now (values .exit)) ⌝ }
+    ensures { λ r. ⌜ taken r (now (values .exit)) ≡ immediateTaken spot pair (now (values .entry)) (now (turned .entry)) ⌝ }
 {
     let a = a_of(spot.word);
     let ok = may_go(Label(pair.pc).restrictions(), turned[a + REGISTER_COUNT]);
     assign(values, spot, a, ok, n_of(spot.word), 1)
-}
-
-// Op 14: register a gets the clock, which the ticks that are left tell.
-pub fn read_clock(
-    spot: Spot,
-    context: Context,
-    values: &mut [u32; REGISTER_COUNT],
-    turned: &[Bits; TURNED_COUNT],
-) -> Turn
-    ensures { λ r. ⌜ ClockTurn context spot (now (values .entry)) (now (turned .entry)) r (now (values .exit)) ⌝ }
-{
-    let pair = context.pair;
-    let a = a_of(spot.word);
-    let held = Label(pair.pc).restrictions() | Label(pair.timing).restrictions();
-    let ok = may_go(held, turned[a + REGISTER_COUNT]);
-    let clock = wrapping_sub_u32(wrapping_add_u32(context.deadline, 1), spot.left);
-    assign(values, spot, a, ok, clock, 1)
 }
 
 // What an arithmetic op computes, where its check passed: a division that isn't put is not done.
@@ -154,7 +136,7 @@ pub fn combine(
     values: &mut [u32; REGISTER_COUNT],
     turned: &[Bits; TURNED_COUNT],
 ) -> Turn
-    ensures { λ r. ⌜ Combined (arithmeticOf f) spot pair (now (values .entry)) (now (turned .entry)) r (now (values .exit)) ⌝ }
+    ensures { λ r. ⌜ taken r (now (values .exit)) ≡ combinedTaken (arithmeticOf f) spot pair (now (values .entry)) (now (turned .entry)) ⌝ }
 {
     let a = a_of(spot.word);
     let b = b_of(spot.word);

@@ -1,6 +1,6 @@
 -- One turn of the hot loop, as its functions promise it: by equation with what a step of the model does.
 -- Assumes nothing.
-use Prim.Native.Nat.{ℕ, _+_, _≤_, _<_}
+use Prim.Native.Nat.{ℕ, _+_, _%_, _^_, _≤_, _<_}
 use mathlib.Core.Path.{_≡_}
 use mathlib.Core.Bool.{true, false, _&&_, cond}
 use mathlib.Core.List.{List}
@@ -18,11 +18,11 @@ use Rattle.turns.specs.declared.Context.{Context}
 use Rattle.turns.specs.declared.Spot.{Spot}
 use Rattle.turns.specs.declared.Turn.{Turn}
 use Rattle.turns.specs.Turned.{Mirrors}
-use Rattle.turns.specs.Turns.{next, timed}
+use Rattle.turns.specs.Turns.{next, timed, taken, assigned}
 use Rattle.sprint.specs.Skim.{isCommon}
 use Rattle.sprint.specs.Sprint.{stateWith, Timed, Stopped}
 
--- ---- what the ops on memory answer
+-- ---- what the ops on memory and op 14 answer
 
 -- Register a got word Rb if the op finishes by the deadline, the check of op 9 passed and it isn't register 0.
 pub record LoadTurn (context : Context) (spot : Spot) (before turned words marks : List ℕ) (r : Turn) (after : List ℕ) : Type 0 where
@@ -47,6 +47,16 @@ pub record StoreTurn (context : Context) (spot : Spot) (values turned before mar
       after ≡ cond (ltb 3 (spot .left))
       (cond (ltb to (context .size) && mayGo held (lacking (getD marks to 0))) (set before to (getD values (aField w) 0)) before)
       before
+
+-- Op 14: register a got the clock, which makes the deadline's next tick with the ticks that are left, in 32 bits.
+pub record ClockTurn (context : Context) (spot : Spot) (before turned : List ℕ) (r : Turn) (after : List ℕ) : Type 0 where
+  pub clock : ℕ
+  pub short : clock < 2 ^ 32
+  pub counted : (clock + spot .left) % 2 ^ 32 ≡ (context .deadline + 1) % 2 ^ 32
+  pub assigned :
+      let a = aField (spot .word) in
+      let held = bitOr (restrictions (context .pair .pc)) (restrictions (context .pair .timing)) in
+      taken r after ≡ assigned before a (mayGo held (getD turned (a + registerCount) 0)) clock 1 spot
 
 -- ---- what a turn means to the state
 

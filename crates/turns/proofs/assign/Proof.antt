@@ -1,9 +1,11 @@
 -- `turns::assign` meets its contract.
 -- Assumes nothing.
+use mathlib.Core.Path.{ap₂}
 use mathlib.Core.Logic.{⊎-elim}
 use borrow.Author.Tests.{lt-ltb, le-ltb}
 use borrow.Author.Needs.{needs}
 use Rattle.model.specs.Ops.{writable}
+use Rattle.turns.specs.Turns.{taken, assigned}
 use Rattle.turns.proofs.assign.Statement.{statement}
 use Rattle.turns.proofs.assign.Tie as tie
 
@@ -20,23 +22,21 @@ going-requires : tie.Need-going-requires
 going-requires c κs = search needs
 
 returns : tie.Need-returns
-unfolding writable
+unfolding writable assigned
 returns c =
     let in-time = lt-ltb _ _ (c .before .before .before .if1 .taken) in
-    record {
-      turn = rw (in-time, ← c .before .next .ensures) (c .going .ensures);
-      values =
-          rw in-time
-          (⊎-elim (λ h. rw (h .0 .taken, lt-ltb _ _ (h .1 .taken)) (h .2))
-          (⊎-elim (λ h. rw (h .0 .taken, le-ltb _ _ (h .1 .left)) (h .2)) (λ h. rw (h .0 .left) (h .1)))
-          (c .before .before .if2 .came));
-    }
+    ap₂ taken (rw (in-time, ← c .before .next .ensures) (c .going .ensures))
+    (rw in-time
+    (⊎-elim (λ h. rw (h .0 .taken, lt-ltb _ _ (h .1 .taken)) (h .2))
+    (⊎-elim (λ h. rw (h .0 .taken, le-ltb _ _ (h .1 .left)) (h .2)) (λ h. rw (h .0 .left) (h .1)))
+    (c .before .before .if2 .came)))
 
 stopping-requires : tie.Need-stopping-requires
 stopping-requires c κs = search needs
 
 returns-2 : tie.Need-returns-2
-returns-2 c = record { turn = rw (le-ltb _ _ (c .before .if1 .left)) (c .stopping .ensures); values = rw (le-ltb _ _ (c .before .if1 .left)) }
+unfolding assigned
+returns-2 c = ap₂ taken (rw (le-ltb _ _ (c .before .if1 .left)) (c .stopping .ensures)) (rw (le-ltb _ _ (c .before .if1 .left)))
 
 pub assign-spec : {M : Type 1} → statement M
 assign-spec =

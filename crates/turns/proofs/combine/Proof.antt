@@ -73,7 +73,7 @@ returns c =
       ← shown .may-go .ensures,
       ← check .may-go2 .ensures,
       ← c .before .ticks-of .ensures .0,
-    ) (assigned-if (check .may-go2 .result) (c .before .before .before .computed .ensures) (c .assign .ensures))
+    ) (assigned-if (check .may-go2 .result) _ _ _ _ _ _ (c .before .before .before .computed .ensures) (c .assign .ensures))
 
 pub combine-spec : {M : Type 1} → statement M
 combine-spec =

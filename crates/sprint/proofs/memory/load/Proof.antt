@@ -2,7 +2,7 @@
 -- Assumes nothing.
 use borrow.Author.Tests.{lt-ltb, le-ltb}
 use borrow.Author.Needs.{needs}
-use Rattle.turns.proofs.Assigning.{assigned-is}
+use Rattle.turns.proofs.Assigning.{assigned-is, assigned-turn}
 use Rattle.sprint.proofs.memory.load.Statement.{statement}
 use Rattle.sprint.proofs.memory.load.Tie as tie
 
@@ -57,7 +57,7 @@ returns c =
     let inside = check .before .before .before .before .before .before .before in
     let fields = inside .before .before .before in
     record {
-      turn = c .assign .ensures .turn;
+      turn = assigned-turn _ _ _ _ _ _ (c .assign .ensures);
       values =
           rw (
             ← fields .before .a-of .ensures .0,
@@ -67,7 +67,7 @@ returns c =
             ← check .before .before .before .before .before .restrictions .ensures,
             ← check .before .before .restrictions2 .ensures,
             ← check .may-go .ensures,
-          ) (assigned-is (fields .before .a-of .ensures .1) (c .assign .ensures));
+          ) (assigned-is _ _ _ _ _ _ (fields .before .a-of .ensures .1) (c .assign .ensures));
     }
 
 assign-requires-2 : tie.Need-assign-requires-2
@@ -76,10 +76,10 @@ assign-requires-2 c κs = search needs
 returns-2 : tie.Need-returns-2
 returns-2 c =
     record {
-      turn = c .assign2 .ensures .turn;
+      turn = assigned-turn _ _ _ _ _ _ (c .assign2 .ensures);
       values =
           rw (← c .before .before .before .before .before .b-of .ensures .0, le-ltb _ _ (c .before .before .if1 .left))
-          (c .assign2 .ensures .values);
+          (assigned-is _ _ _ _ _ _ (c .before .before .before .before .before .before .a-of .ensures .1) (c .assign2 .ensures));
     }
 
 pub load-spec : {M : Type 1} → statement M

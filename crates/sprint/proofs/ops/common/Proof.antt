@@ -15,7 +15,8 @@ use Rattle.model.specs.Step.{Fetched, known, fetched}
 use Rattle.parts.specs.declared.stages.Reason.the-variants.{Rest}
 use Rattle.turns.specs.declared.Turn.{Turn}
 use Rattle.turns.specs.Turned.{Mirrors}
-use Rattle.turns.specs.Turns.{Combined}
+use Rattle.turns.specs.Turns.{taken, combinedTaken}
+use Rattle.turns.proofs.Assigning.{assigned-turn}
 use Rattle.sprint.specs.Sprint.{stateWith, Timed}
 use Rattle.sprint.specs.Inner.Turns.{Common, Forward}
 use Rattle.sprint.proofs.Numbering.{op-of, no-op, none-uncommon, uncommon}
@@ -78,13 +79,13 @@ mark-below c i = omega (arith, c .before .before .before .before .shared-slice-k
 -- Its turn, where the op has the number k.
 combined : (c : tie.After-op-of) {k : ℕ} {o : Arithmetic} {r : Turn} {values′ : List ℕ} → c .op-of .result ≡ k
     → decode k ≡ some (arithmetic o)
-    → Combined o (started c .args .spot) (started c .args .context .pair) (now (started c .args .values)) (now (started c .args .turned)) r values′
+    → taken r values′ ≡ combinedTaken o (started c .args .spot) (started c .args .context .pair) (now (started c .args .values)) (now (started c .args .turned))
     → Common (started c .args .context) (started c .args .spot) (now (started c .args .values)) (now (started c .args .turned))
     (now (started c .args .words)) (now (started c .args .marks)) r values′ (now (started c .args .words))
     × Forward (started c .args .spot) r
 combined c {o = o} e d h = (
   λ s labels m l t f. arithmetic-turn (told c s labels m l t) (timing-below c) (op-is c f e d) h,
-  timed-forward (started c .args .spot) _ _ (ticks-long o _ _) (h .turn),
+  timed-forward (started c .args .spot) _ _ (ticks-long o _ _) (assigned-turn _ _ _ _ _ _ h),
 )
 
 -- ---- the needs
@@ -233,7 +234,7 @@ unfolding decode
 returns-2 c =
     let at = c .before .before .before in (
       λ s labels m l t f. immediate-turn (told at s labels m l t) (op-is at f (c .before .before .match .keys2) refl) (c .immediate .ensures),
-      timed-forward (started at .args .spot) 1 _ (lit≤ tt) (c .immediate .ensures .turn),
+      timed-forward (started at .args .spot) 1 _ (lit≤ tt) (assigned-turn _ _ _ _ _ _ (c .immediate .ensures)),
     )
 
 returns-3 : tie.Need-returns-3
@@ -315,7 +316,7 @@ unfolding decode
 returns-15 c =
     let at = c .before .before .before in (
       λ s labels m l t f. clock-turn (told at s labels m l t) (op-is at f (c .before .before .match .keys15) refl) (c .read-clock .ensures),
-      timed-forward (started at .args .spot) 1 _ (lit≤ tt) (c .read-clock .ensures .assigned .turn),
+      timed-forward (started at .args .spot) 1 _ (lit≤ tt) (assigned-turn _ _ _ _ _ _ (c .read-clock .ensures .assigned)),
     )
 
 returns-16 : tie.Need-returns-16

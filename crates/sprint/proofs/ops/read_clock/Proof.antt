@@ -1,10 +1,10 @@
--- `turns::read_clock` meets its contract.
+-- `sprint::ops::read_clock` meets its contract.
 -- Assumes nothing.
 use mathlib.Core.Path.{_∙_}
 use native.Mathlib.Omega.{arith}
 use borrow.Author.Needs.{needs}
-use Rattle.turns.proofs.read_clock.Statement.{statement}
-use Rattle.turns.proofs.read_clock.Tie as tie
+use Rattle.sprint.proofs.ops.read_clock.Statement.{statement}
+use Rattle.sprint.proofs.ops.read_clock.Tie as tie
 
 a-of-requires : tie.Need-a-of-requires
 a-of-requires c κs = search needs
