@@ -9,7 +9,7 @@ use model::format::Number;
 use reader::read_alone;
 
 // A label, or none.
-#[derive(Drop)]
+#[derive(Clone, Copy)]
 pub enum Named {
     Label(Bits),
     Nothing,

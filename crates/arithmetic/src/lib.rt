@@ -7,7 +7,7 @@ ghost use Rattle.arithmetic.specs.Arithmetic.{arithmetic_of};
 use model::numbers::VALUE_COUNT;
 
 // The ops 2 to 8, 23 and 24.
-#[derive(Drop)]
+#[derive(Clone, Copy)]
 pub enum Arithmetic {
     Add,
     Subtract,

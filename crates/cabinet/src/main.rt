@@ -98,7 +98,7 @@ fn fire_arguments(words: &mut [u32; MOST_WORDS], labels: &mut [Bits; MOST_WORDS]
 }
 
 // What comes of the next name on standard input.
-#[derive(Drop)]
+#[derive(Clone, Copy)]
 enum Turn {
     // The next one may come.
     Next,

@@ -11,7 +11,7 @@ const LINE_FEED: u8 = b'\n';
 const MOST_BYTES: u64 = 0xFFFF_FFFF_FFFF_FFFF;
 
 // How a line ended.
-#[derive(Drop)]
+#[derive(Clone, Copy)]
 pub enum Ending {
     // Behind a whole name.
     Whole,
@@ -24,14 +24,14 @@ pub enum Ending {
 }
 
 // A name of so many bytes, and how its line ended.
-#[derive(Drop)]
+#[derive(Clone, Copy)]
 pub struct Line {
     pub count: usize,
     pub ending: Ending,
 }
 
 // The next byte of standard input.
-#[derive(Drop)]
+#[derive(Clone, Copy)]
 enum Byte {
     Some(u8),
     End,

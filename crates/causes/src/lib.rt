@@ -4,7 +4,7 @@ ghost use Rattle.std.specs.Prelude.{◌≡◌};
 ghost use Rattle.causes.specs.Causes.{number_of, cause_number};
 
 // Why a call is refused, in the table's order.
-#[derive(Drop)]
+#[derive(Clone, Copy)]
 pub enum Cause {
     // The text is empty or too long.
     TextLength,
@@ -35,7 +35,7 @@ pub enum Cause {
 }
 
 // How a call of load, step, run, print or view ended: it was carried out, or refused.
-#[derive(Drop)]
+#[derive(Clone, Copy)]
 pub enum Outcome {
     Done,
     Refused(Cause),

@@ -23,7 +23,7 @@ mod breaks;
 mod release;
 
 // The first break: its cause, or 0; its tick; and its place.
-#[derive(Drop)]
+#[derive(Clone, Copy)]
 pub struct Certificate {
     pub cause: u8,
     pub tick: u32,
@@ -31,7 +31,7 @@ pub struct Certificate {
 }
 
 // The outcome of load, the refusal's line or 0, and the certificate: beside a refusal stands one with no break.
-#[derive(Drop)]
+#[derive(Clone, Copy)]
 pub struct Certified {
     pub outcome: Outcome,
     pub line: u32,

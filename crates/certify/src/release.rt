@@ -16,7 +16,7 @@ const RELABEL: u32 = 16;
 const TICKS: u32 = 2;
 
 // What the fetch gives: a word that relabels, or anything else.
-#[derive(Drop)]
+#[derive(Clone, Copy)]
 pub(in crate) enum Found {
     Word(u32),
     Nothing,

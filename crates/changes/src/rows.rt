@@ -17,7 +17,7 @@ use parts::stages::Change;
 use parts::word::{a_of, b_of, c_of};
 
 // The rules of ops 15 and 16.
-#[derive(Drop)]
+#[derive(Clone, Copy)]
 pub enum Rule {
     Raise,
     Relabel,

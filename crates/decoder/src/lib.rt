@@ -12,14 +12,14 @@ use model::Pair;
 mod decode;
 
 // Whether a buffer holds a record.
-#[derive(Drop)]
+#[derive(Clone, Copy)]
 pub enum Found {
     Record,
     Nothing,
 }
 
 // What reading a buffer finds. Beside `Nothing` stands a record of size 0.
-#[derive(Drop)]
+#[derive(Clone, Copy)]
 pub struct Reading {
     pub found: Found,
     pub machine: Machine,

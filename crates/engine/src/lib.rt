@@ -16,7 +16,7 @@ use pacing::Pace;
 use pacing::ranges::is_fitting;
 
 // What is asked for: from which control on, and how far.
-#[derive(Drop)]
+#[derive(Clone, Copy)]
 pub struct Task {
     pub start: Control,
     pub pace: Pace,

@@ -17,7 +17,7 @@ use model::numbers::LONGEST_TEXT;
 use verdicts::header_verdict;
 
 // The outcome, the refusal's line or 0, and the record: beside a refusal stands one of size 0.
-#[derive(Drop)]
+#[derive(Clone, Copy)]
 pub struct Loaded {
     pub outcome: Outcome,
     pub line: u32,

@@ -26,7 +26,7 @@ mod words;
 
 // The outcome, the refusal's line or 0, and the record: beside a refusal stands one of size 0. A HEX text has no greatest
 // length, so a line's number is as wide as a length.
-#[derive(Drop)]
+#[derive(Clone, Copy)]
 pub struct Loaded {
     pub outcome: Outcome,
     pub line: u64,

@@ -9,7 +9,7 @@ use causes::{Cause, Outcome};
 use hexreader::{DATA_DIGITS, Found, NO_BYTE, byte_at, read_record};
 
 // The verdict on the records: whether they are accepted, or on which line one is refused.
-#[derive(Drop)]
+#[derive(Clone, Copy)]
 pub(in crate) struct Judged {
     pub outcome: Outcome,
     pub line: u64,

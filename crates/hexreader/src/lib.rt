@@ -42,7 +42,7 @@ const DATA_TYPE: u16 = 0;
 const END_TYPE: u16 = 1;
 
 // What a record says: so many bytes from an address on, or the end; or it is bad.
-#[derive(Drop)]
+#[derive(Clone, Copy)]
 pub enum Found {
     Data(usize, usize),
     End,
@@ -50,7 +50,7 @@ pub enum Found {
 }
 
 // A record, and how many bytes of the text it takes: where the next one begins.
-#[derive(Drop)]
+#[derive(Clone, Copy)]
 pub struct Read {
     pub found: Found,
     pub next: usize,
@@ -63,7 +63,7 @@ const BAD: Read = Read {
 };
 
 // How many bytes a text of digits begins with, and their sum modulo 256.
-#[derive(Drop)]
+#[derive(Clone, Copy)]
 struct Total {
     count: usize,
     sum: u16,

@@ -11,7 +11,7 @@ ghost use Rattle.labels.specs.Label.{restrictions, lacking, flows, join, meet, r
 // A label as a number.
 pub type Bits = u8;
 
-#[derive(Drop)]
+#[derive(Clone, Copy)]
 pub struct Label(pub Bits);
 
 // Every number below this one is a label.

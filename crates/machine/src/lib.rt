@@ -16,7 +16,7 @@ use model::Request;
 use pacing::Pace;
 
 // What a call answers.
-#[derive(Drop)]
+#[derive(Clone, Copy)]
 pub struct Answer {
     pub outcome: Outcome,
     pub machine: Machine,

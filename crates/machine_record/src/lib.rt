@@ -13,7 +13,7 @@ use wellformed::{calls_well_formed, end_in_range, fixed_in_range, gates_valid};
 mod wellformed;
 
 // The machine record.
-#[derive(Drop)]
+#[derive(Clone, Copy)]
 pub struct Machine {
     pub fixed: Fixed,
     pub control: Control,

@@ -12,21 +12,21 @@ pub const MOST_FIELDS: usize = 6;
 pub const MOST_DIGITS: usize = 10;
 
 // A number in the text and how many bytes its field takes, the comma before it included.
-#[derive(Drop)]
+#[derive(Clone, Copy)]
 pub enum Number {
     Value(u64, usize),
     Bad,
 }
 
 // How many bytes some fields in a row take. Their numbers stand beside it, since no enum holds an array.
-#[derive(Drop)]
+#[derive(Clone, Copy)]
 pub enum Span {
     Bytes(usize),
     Bad,
 }
 
 // A line by its letter, with its numbers in their order; or one that is malformed.
-#[derive(Drop)]
+#[derive(Clone, Copy)]
 pub enum Line {
     M(u64, u64, u64, u64, u64, u64),
     G(u64, u64, u64),
@@ -36,7 +36,7 @@ pub enum Line {
 }
 
 // A line, and how many bytes it takes: where the next one begins.
-#[derive(Drop)]
+#[derive(Clone, Copy)]
 pub struct Read {
     pub line: Line,
     pub next: usize,

@@ -1,7 +1,7 @@
 // What a line of a text is judged by: the kinds in their order, the line before it, and the numbers of the M line.
 
 // The kinds of lines, in the order in which they come: M, G, R, W.
-#[derive(Drop)]
+#[derive(Clone, Copy)]
 pub enum Kind {
     HeaderLine,
     GateLine,
@@ -10,14 +10,14 @@ pub enum Kind {
 }
 
 // The line before: its kind, and its register number or address (0 for M and G).
-#[derive(Drop)]
+#[derive(Clone, Copy)]
 pub struct Last {
     pub kind: Kind,
     pub number: u64,
 }
 
 // The numbers of the M line, in their order.
-#[derive(Drop)]
+#[derive(Clone, Copy)]
 pub struct Header {
     pub size: u64,
     pub errorpc: u64,

@@ -9,21 +9,21 @@ use labels::Bits;
 use numbers::MOST_GATES;
 
 // A pc label and a timing label (the paper's place label p and clock label t).
-#[derive(Drop)]
+#[derive(Clone, Copy)]
 pub struct Pair {
     pub pc: Bits,
     pub timing: Bits,
 }
 
 // A call gate: where a gate call through it goes on, and under which pair.
-#[derive(Drop)]
+#[derive(Clone, Copy)]
 pub struct CallGate {
     pub entry: u32,
     pub pair: Pair,
 }
 
 // One of the two places for open calls. A call keeps its return pc and pair, an upcall also its end tick.
-#[derive(Drop)]
+#[derive(Clone, Copy)]
 pub enum Call {
     Empty,
     Gate(u32, Pair),
@@ -31,7 +31,7 @@ pub enum Call {
 }
 
 // What a call asks of the machine: one step, the run, or the run to a tick.
-#[derive(Drop)]
+#[derive(Clone, Copy)]
 pub enum Request {
     Step,
     Run,
@@ -39,7 +39,7 @@ pub enum Request {
 }
 
 // What no step changes.
-#[derive(Drop)]
+#[derive(Clone, Copy)]
 pub struct Fixed {
     pub size: u32,
     pub limit: u32,
@@ -50,7 +50,7 @@ pub struct Fixed {
 
 // What a step reads and changes besides registers and memory. `end` is 0 running, 1 halted, 2 clock spent, 3 stalled;
 // `why` is 1 to 3 where it stalled.
-#[derive(Drop)]
+#[derive(Clone, Copy)]
 pub struct Control {
     pub pc: u32,
     pub pair: Pair,

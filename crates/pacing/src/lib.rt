@@ -14,7 +14,7 @@ use parts::word::op_of;
 const RELABEL: u32 = 16;
 
 // How far the steps go.
-#[derive(Drop)]
+#[derive(Clone, Copy)]
 pub enum Pace {
     // one step
     Once,

@@ -16,7 +16,7 @@ pub const GATE_CALL: u16 = 1;
 pub const UPCALL: u16 = 2;
 
 // An open call in plain numbers. The kind takes two bytes, so that the struct has none that mean nothing.
-#[derive(Drop)]
+#[derive(Clone, Copy)]
 pub struct Frame {
     pub end: u64,
     pub back: u32,
@@ -25,7 +25,7 @@ pub struct Frame {
 }
 
 // The control of a machine that runs.
-#[derive(Drop)]
+#[derive(Clone, Copy)]
 pub struct Live {
     pub pc: u32,
     pub pair: Pair,

@@ -3,7 +3,7 @@ use labels::Bits;
 use model::Pair;
 
 // Why the hot loop stopped.
-#[derive(Drop)]
+#[derive(Clone, Copy)]
 pub enum Reason {
     // it has gone as far as it was asked to
     Out,
@@ -20,7 +20,7 @@ pub enum Reason {
 }
 
 // What an op changes that is carried out.
-#[derive(Drop)]
+#[derive(Clone, Copy)]
 pub enum Change {
     // nothing
     Pass,
@@ -39,7 +39,7 @@ pub enum Change {
 }
 
 // What a step does: it spends the clock, stalls, closes the upcall with a cause, or carries a change out in so many ticks.
-#[derive(Drop)]
+#[derive(Clone, Copy)]
 pub enum Decision {
     Spend,
     Stall(u8),

@@ -35,7 +35,7 @@ const GATE: u64 = 1;
 const UPCALL: u64 = 2;
 
 // The outcome, how many bytes were written, and the record as it was given.
-#[derive(Drop)]
+#[derive(Clone, Copy)]
 pub struct Printed {
     pub outcome: Outcome,
     pub bytes: usize,
@@ -43,14 +43,14 @@ pub struct Printed {
 }
 
 // A part of the listing: the letter of its lines, and of how many entries it tells.
-#[derive(Drop)]
+#[derive(Clone, Copy)]
 struct Section {
     letter: u8,
     count: usize,
 }
 
 // A register or a word: its number, its label and its value.
-#[derive(Drop)]
+#[derive(Clone, Copy)]
 struct Entry {
     number: usize,
     label: Bits,

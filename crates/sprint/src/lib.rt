@@ -15,14 +15,14 @@ use parts::word::index;
 use turns::{Context, Spot, TURNED_COUNT};
 
 // Where the loop stands: the pc, and how many ticks are left to the deadline, the present one counted.
-#[derive(Drop)]
+#[derive(Clone, Copy)]
 pub struct Place {
     pub pc: u32,
     pub left: u32,
 }
 
 // Where the loop stopped, and why.
-#[derive(Drop)]
+#[derive(Clone, Copy)]
 pub struct Pause {
     pub place: Place,
     pub reason: Reason,

@@ -19,7 +19,7 @@ pub const TURNED_COUNT: usize = 32;
 
 // What stays the same while the hot loop runs: the size, the pair, whether an upcall is open, and the tick by which an op
 // has to finish.
-#[derive(Drop)]
+#[derive(Clone, Copy)]
 pub struct Context {
     pub size: u32,
     pub pair: Pair,
@@ -28,7 +28,7 @@ pub struct Context {
 }
 
 // A fetched word, with the pc where it was fetched and the ticks that are left to the deadline, the present one counted.
-#[derive(Drop)]
+#[derive(Clone, Copy)]
 pub struct Spot {
     pub word: u32,
     pub pc: u32,
@@ -36,7 +36,7 @@ pub struct Spot {
 }
 
 // One turn of the loop: whether it did a step, the pc that it left and the ticks that it took, and else why it stopped.
-#[derive(Drop)]
+#[derive(Clone, Copy)]
 pub struct Turn {
     pub done: bool,
     pub pc: u32,

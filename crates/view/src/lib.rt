@@ -24,7 +24,7 @@ pub const OUTPUT: usize = 65536;
 
 // The outcome; the line of a text that was refused, or the limit where the tick is above it; and how many bytes were
 // written.
-#[derive(Drop)]
+#[derive(Clone, Copy)]
 pub struct Viewed {
     pub outcome: Outcome,
     pub value: u32,

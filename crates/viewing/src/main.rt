@@ -14,7 +14,7 @@ fn complain(what: &[u8]) {
 }
 
 // What the two arguments ask for: a label and a tick, or nothing.
-#[derive(Drop)]
+#[derive(Clone, Copy)]
 enum Asked {
     View(Bits, u64),
     Nothing,
