@@ -2,12 +2,8 @@
 -- Assumes nothing.
 use mathlib.Core.Path.{refl}
 use Rattle.principals.specs.Principals.{subset, integrity, confidentiality, uncompromised}
-use Rattle.labels.proofs.Label.is_uncompromised.Statement.{statement}
-use Rattle.labels.proofs.Label.is_uncompromised.Tie as tie
+use Rattle.labels.proofs.Label.is_uncompromised.Goals as goal
 
-returns : tie.Need-returns
+pub returns : goal.returns
 unfolding subset integrity confidentiality uncompromised
 returns c = refl
-
-pub is-uncompromised-spec : {M : Type 1} → statement M
-is-uncompromised-spec = tie.close (tie.spec returns)

@@ -2,12 +2,8 @@
 -- Assumes nothing.
 use mathlib.Core.Path.{refl}
 use Rattle.principals.specs.Principals.{label, highest, lacking}
-use Rattle.labels.proofs.Label.lacking.Statement.{statement}
-use Rattle.labels.proofs.Label.lacking.Tie as tie
+use Rattle.labels.proofs.Label.lacking.Goals as goal
 
-returns : tie.Need-returns
+pub returns : goal.returns
 unfolding lacking label highest
 returns c = refl
-
-pub lacking-spec : {M : Type 1} → statement M
-lacking-spec = tie.close (tie.spec returns)
