@@ -208,6 +208,7 @@ visible_at {sees} {s} {t} a (marks {x = x} {l = l} f i) (marks g j) (marks h) y 
     (value_after_label s x y l ∙ q ∙ sym (value_after_label t x y l)))
     (λ (e : same x y ≡ false). other_label sees s x y l f e ∙ a.seen y ∙ sym (other_label sees t x y l g e))
     (either (same x y))
+visible_at {sees = sees} {s = s} {t = t} a none _ x6 y = elim x6 [ ]
 
 -- The same write to a location within sight shows the same.
 pub visible_write : {sees : ℕ → Bool} {s t : State} → Alike sees s t → {w : Write} → Fits s w → Fits t w → Visible sees s w

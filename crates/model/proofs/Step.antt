@@ -3,7 +3,7 @@
 use Prim.Native.Nat.{ℕ, ◌+◌, ◌<◌, ◌≤◌}
 use mathlib.Core.Path.{◌≡◌, refl, sym, ap, ◌∙◌, subst}
 use mathlib.Core.Logic.{◌⊎◌, inl, inr}
-use mathlib.Core.Bool.{Bool, true, false, ◌||◌, or_true}
+use mathlib.Core.Bool.{Bool, true, false, ◌||◌, or-true}
 use mathlib.Core.List.{List}
 use native.Mathlib.Nat.{le_refl, lt_of_lt_of_le}
 use native.Mathlib.Omega.{arith}
@@ -236,7 +236,7 @@ at_limit : (s : State) (d : Decision) → s.control.clock ≡ s.fixed.limit → 
 unfolding beyond_limit
 at_limit s d e =
     let late = ltb s.fixed.limit (finish s d) in
-    ap (λ (b : Bool). late || b) (eq-eqb s.control.clock s.fixed.limit e) ∙ or_true late
+    ap (λ (b : Bool). late || b) (eq-eqb s.control.clock s.fixed.limit e) ∙ or-true late
 
 -- So every step of a running record there spends the clock.
 pub spends_at_limit : (s : State) → running s ≡ true → s.control.clock ≡ s.fixed.limit → decide s ≡ spend

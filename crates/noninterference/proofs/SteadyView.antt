@@ -4,7 +4,7 @@
 use Prim.Native.Nat.{ℕ, zero, suc, ◌+◌, ◌-◌}
 use mathlib.Core.Path.{◌≡◌, refl, sym, ap, ◌∙◌, subst₂}
 use mathlib.Core.Logic.{⊎_elim}
-use mathlib.Core.Bool.{Bool, true, false, or_true}
+use mathlib.Core.Bool.{Bool, true, false, or-true}
 use mathlib.Core.List.{List, [], ◌∷◌, append-nil}
 use lib.Dec.{leb, ltb}
 use lib.ListN.{length}
@@ -70,7 +70,7 @@ run_to_at_tick k s r = ap (at_tick k s) (run_trace s r) ∙ at_tick_by k _ s r
 run_reaches : (k : ℕ) (s : State) → Ready s → reached k s (trace (run_call ∷ []) s) ≡ true
 unfolding reached after_all after regain
 run_reaches k s r =
-    rw (trace_last (run_call ∷ []) s r ∙ run_after, run_ends s r) (or_true (ltb k (run s).control.clock))
+    rw (trace_last (run_call ∷ []) s r ∙ run_after, run_ends s r) (or-true (ltb k (run s).control.clock))
   where
     run_after : after_all (run_call ∷ []) s ≡ run s
     run_after = rw (answer_whole Run s r)

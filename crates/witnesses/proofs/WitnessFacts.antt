@@ -4,7 +4,7 @@
 use Prim.Native.Nat.{ℕ, zero, suc, ◌<◌, ◌≤◌, ◌^◌, max}
 use mathlib.Core.Path.{◌≡◌, refl, sym, ap, ap₂, ◌∙◌, subst, subst₂}
 use mathlib.Core.Logic.{⊎_elim}
-use mathlib.Core.Bool.{Bool, true, false, not, ◌||◌, or_true}
+use mathlib.Core.Bool.{Bool, true, false, not, ◌||◌, or-true}
 use mathlib.Core.List.{List, [], ◌∷◌}
 use native.Mathlib.Omega.{arith}
 use lib.Dec.{leb, ltb, eqb}
@@ -343,7 +343,7 @@ unbroken_hold = refl
 pub ended_reached : (k : ℕ) (s : State) (xs : List State) → running (final s xs) ≡ false → reached k s xs ≡ true
 unfolding reached
 ended_reached k s xs e =
-    let above = ltb k (final s xs).control.clock in ap (λ (b : Bool). above || not b) e ∙ or_true above
+    let above = ltb k (final s xs).control.clock in ap (λ (b : Bool). above || not b) e ∙ or-true above
 
 -- What is reached.
 pub reached_hold : every reached_table ≡ true
