@@ -30,7 +30,7 @@ use Rattle.model.proofs.Legal.{LegalWrite, keeps, sets, marks, LegalChange, writ
 use Rattle.model.proofs.WellFormed.{step_control}
 use Rattle.model.proofs.Step.{there, step_write}
 use Rattle.model.proofs.Sight.{same_location, within_down}
-use Rattle.noninterference.proofs.Hidden.{outside_on}
+use Rattle.noninterference.proofs.Unseen.{outside_on}
 use Rattle.model.proofs.Visible.{step_leaves}
 use Rattle.model.proofs.Relabelling.{Plain, same_label, effect_write, relabelling}
 

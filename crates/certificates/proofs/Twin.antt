@@ -28,7 +28,7 @@ use Rattle.model.proofs.Legal.{LegalChange, writes, goes, enters, calls, gates, 
 use Rattle.model.proofs.WellFormed.{top_upcall, step_fixed, step_control}
 use Rattle.model.proofs.Step.{step_ready, step_ended, step_passes, end_tick_late}
 use Rattle.model.proofs.Sight.{Alike, alike_sym, alike_trans, within_down, flows_equal, flows_alike}
-use Rattle.noninterference.proofs.Hidden.{hidden_step, Lost, lost_decision, restored_closed, opened_upcall, opened_gate, Away, back, Still, Onward, still, returned, away_step}
+use Rattle.noninterference.proofs.Unseen.{hidden_step, Lost, lost_decision, restored_closed, opened_upcall, opened_gate, Away, back, Still, Onward, still, returned, away_step}
 use Rattle.model.proofs.Visible.{setting_sym, Together, bare, fetch_same, decide_similar, a_exists, b_exists}
 use Rattle.noninterference.proofs.Lockstep.{visible_control, visible_alike}
 use Rattle.noninterference.proofs.Paths.{Both, timing_within, Abroad, away, abroad, seen_control_lem, setting_on, end_tick_same}

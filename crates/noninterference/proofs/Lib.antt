@@ -1,4 +1,4 @@
-pub mod Hidden
+pub mod Unseen
 pub mod Lockstep
 pub mod Paths
 pub mod Trace

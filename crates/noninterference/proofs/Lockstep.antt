@@ -19,7 +19,7 @@ use Rattle.model.proofs.Step.{step_write}
 use Rattle.model.proofs.Sight as sight
 use Rattle.model.proofs.Sight.{Alike, alike_sym, alike_trans, inside_exists, within_down, Visible, Hidden, Fits, hidden_write, visible_write}
 use Rattle.model.proofs.Visible.{Together, decide_similar, control_same, label_set}
-use Rattle.noninterference.proofs.Hidden.{legal_fits, step_written}
+use Rattle.noninterference.proofs.Unseen.{legal_fits, step_written}
 
 -- A label that is set where no downgrade is made: set outside where the old one was.
 no_downgrade_lem : (ℓ : ℕ) (s : State) (x : Location) (l : ℕ) → Ready s → Inside s x → write_of s (decide s) ≡ label x l

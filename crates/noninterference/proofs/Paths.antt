@@ -23,7 +23,7 @@ use Rattle.model.proofs.WellFormed.{step_fixed}
 use Rattle.model.proofs.Step.{step_ready}
 use Rattle.model.proofs.Run.{steps_ended, steps_ready, steps_leave}
 use Rattle.model.proofs.Sight.{Alike, alike_sym, alike_trans, no_control}
-use Rattle.noninterference.proofs.Hidden.{hidden_step, Lost, lost_step, Away, Still, still, returned, Onward, back, away_step, away_soon}
+use Rattle.noninterference.proofs.Unseen.{hidden_step, Lost, lost_step, Away, Still, still, returned, Onward, back, away_step, away_soon}
 use Rattle.noninterference.proofs.Lockstep.{visible_control, visible_alike}
 
 -- ---- the relation
