@@ -2,7 +2,7 @@
 -- record takes.
 -- Assumes nothing.
 use Prim.Native.Nat.{ℕ, zero, suc, ◌+◌, ◌*◌, ◌%◌, ◌≤◌, ◌<◌}
-use mathlib.Core.Path.{◌≡◌, refl, sym, ap, ◌∙◌}
+use mathlib.Core.Path.{◌≡◌, refl, sym, ap, subst, ◌∙◌}
 use mathlib.Core.Logic.{⊎_elim}
 use mathlib.Core.Bool.{Bool, true, ◌&&◌}
 use mathlib.Core.List.{List, [], ◌∷◌}
@@ -70,7 +70,9 @@ bytes_more xs i h =
     let w : i + 1 < length xs = byte_within xs i h in
     let t : ltb (byte_of (get_or xs i 0) (get_or xs (i + 1) 0)) 256 ≡ true = lt-ltb _ _ h in
     let next : i + 2 ≡ suc (i + 1) = omega arith in
-    rw (next, drop-cons xs i 0 (omega arith), ← add-one i, drop-cons xs (i + 1) 0 w, bytes, t)
+    let second : drop (suc i) xs ≡ get_or xs (i + 1) 0 ∷ drop (i + 2) xs =
+        subst (λ (k : ℕ). drop k xs ≡ get_or xs (i + 1) 0 ∷ drop (i + 2) xs) (add-one i) (rw next (drop-cons xs (i + 1) 0 w)) in
+    rw (drop-cons xs i 0 (omega arith), second, bytes, t)
 
 -- The bytes end.
 none_from : (ys : List ℕ) → (byte_of (get_or ys 0 0) (get_or ys 1 0) < 256 → ⊥) → bytes ys ≡ []

@@ -1,0 +1,11 @@
+-- `parts::calls::deadline_of` meets its contract.
+-- Assumes nothing.
+use borrow.Author.Rules.{rules}
+use native.Mathlib.Omega.{arith}
+use Rattle.parts.proofs.calls.deadline_of.Goals as goal
+
+pub returns-then-is_upcall : goal.returns-then-is_upcall
+returns-then-is_upcall c = (rw (← c.is_upcall.ensures, c.if-is_upcall.true, ← c.end_tick.ensures, c.nearer.ensures.0), c.nearer.ensures.1)
+
+pub returns : goal.returns
+returns c = (rw (← c.is_upcall.ensures, c.if-is_upcall.false), omega arith)
