@@ -79,7 +79,7 @@ found {ℓ} {s} r m (later a b more) (suc n) h =
     (λ (u : running s ≡ true).
     ⊎_elim
     (λ (k : s.control.clock < (step s).control.clock).
-    found (step_ready s r) b more n (rw (step_fixed s) (omega (arith, p.limited))))
+    found {s = step s} (step_ready s r) b more n (rw (step_fixed s) (omega (arith, p.limited))))
     (λ (e : eqb (step s).control.end 0 ≡ false).
     let x : running (step s) ≡ false = unfold running in e in absurd (ended_whole x b more))
     (p.progress u))

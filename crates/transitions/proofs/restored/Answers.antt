@@ -1,0 +1,7 @@
+-- `transitions::restored` meets its contract.
+-- Assumes nothing.
+use Rattle.std.proofs.Common.{rules}
+use Rattle.transitions.proofs.restored.Goals as goal
+
+pub returns : goal.returns
+returns c = rw (← c.no_frame-none.ensures)
