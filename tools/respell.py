@@ -15,8 +15,18 @@ DECLARED = re.compile(
 )
 # A law whose name in snake case is a word of the library that stands beside it.
 APART = {"bit-and": "bit_of_and", "bit-or": "bit_of_or", "bit-xor": "bit_of_xor"}
-# Operators that are words.
-OPERATORS = {"andThen": "and_then", "orElse": "or_else"}
+# Operators that are words, and what several names to a line, a word brought in under another name or a proof alone declares.
+OTHERS = {
+    "andThen": "and_then",
+    "orElse": "or_else",
+    "endUpcall": "end_upcall",
+    "setPair": "set_pair",
+    "readClock": "read_clock",
+    "gateReturn": "gate_return",
+    "loadWord": "load_word",
+    "lessThan": "less_than",
+    "taskAt": "task_at",
+}
 # Laws that had their names in snake case already, which a definition takes now: the file that declares each.
 TAKEN = {
     "kept_pair": "crates/changes/proofs/Calling.antt",
@@ -64,7 +74,7 @@ def renamings(found):
     by_hand = {n for n, paths in found.items() if all(p.endswith("/Proof.antt") for p in paths)}
     old = [n for n in found if not n[0].isupper() and n not in by_hand and snake(n) != n]
     definitions = {snake(n) for n in old if "-" not in n} | {n for n in found if n not in by_hand}
-    result = dict(OPERATORS)
+    result = dict(OTHERS)
     for name in old:
         new = APART.get(name) or snake(name)
         if "-" in name and name not in APART and new in definitions:

@@ -1,6 +1,6 @@
 // What the arithmetic ops compute from two registers, and how many ticks they take.
 ghost use Rattle.std.specs.Prelude.{◌≡◌, ◌≤◌};
-ghost use Rattle.model.specs.Word.{compute, add, subtract, less as lessThan, multiply, divide, remainder as left};
+ghost use Rattle.model.specs.Word.{compute, add, subtract, less as less_than, multiply, divide, remainder as left};
 ghost use Rattle.model.specs.Ops.{multiply_count, multiply_ticks, arithmetic_ticks};
 ghost use Rattle.arithmetic.specs.Arithmetic.{arithmetic_of};
 
@@ -34,7 +34,7 @@ const DIVISION_TICKS: u32 = 34;
 
 // 1 if x is below y, else 0.
 fn less(x: u32, y: u32) -> u32
-    ensures { result ≡ compute lessThan x y }
+    ensures { result ≡ compute less_than x y }
 {
     if x < y { 1 } else { 0 }
 }

@@ -16,7 +16,7 @@ use Rattle.model.specs.declared.Control.{Control}
 use Rattle.model.specs.declared.Call.{Call}
 use Rattle.model.specs.declared.Call.TheVariants.{Empty, Gate, Upcall}
 use Rattle.model.specs.Record.{State, Location, register, word, label_at, is_empty, is_upcall, newest, in_upcall}
-use Rattle.model.specs.Word.{Rule, raise, relabel, Op, immediate, arithmetic, load, store, branch, jump, readClock, set_label, setPair, upcall, endUpcall, gate_call, gateReturn, halt, a_field}
+use Rattle.model.specs.Word.{Rule, raise, relabel, Op, immediate, arithmetic, load, store, branch, jump, read_clock, set_label, set_pair, upcall, end_upcall, gate_call, gate_return, halt, a_field}
 use Rattle.model.specs.WellFormed.{no_gate}
 use Rattle.model.specs.Ops.{writable, Write, label, Change, write, Effect, does, is_label, allows, La, Lb, Rb, table}
 use Rattle.model.specs.Step.{fetched, fetch, Decision, carry, decide, is_carried, write_of, written, control_after, changed, step}
@@ -61,15 +61,15 @@ module _ (s : State) {x : Location} {l : ℕ} where
   set_op w store f c e d = plain_effect {e = (table s w store).effect} tt e
   set_op w (branch g) f c e d = plain_effect {e = (table s w (branch g)).effect} tt e
   set_op w jump f c e d = plain_effect {e = (table s w jump).effect} tt e
-  set_op w readClock f c e d = plain_effect {e = (table s w readClock).effect} tt e
+  set_op w read_clock f c e d = plain_effect {e = (table s w read_clock).effect} tt e
   set_op w (set_label g) f c e d =
       let h = same_label (ap effect_write e) in
       record { word = w; rule = g; fetched = f; check = ((and_iff _ (writable (a_field w))).0 c).0; location = h.0; label = h.1; done = d }
-  set_op w setPair f c e d = plain_effect {e = (table s w setPair).effect} tt e
+  set_op w set_pair f c e d = plain_effect {e = (table s w set_pair).effect} tt e
   set_op w upcall f c e d = plain_effect {e = (table s w upcall).effect} tt e
-  set_op w endUpcall f c e d = plain_effect {e = (table s w endUpcall).effect} tt e
+  set_op w end_upcall f c e d = plain_effect {e = (table s w end_upcall).effect} tt e
   set_op w gate_call f c e d = plain_effect {e = (table s w gate_call).effect} tt e
-  set_op w gateReturn f c e d = plain_effect {e = (table s w gateReturn).effect} tt e
+  set_op w gate_return f c e d = plain_effect {e = (table s w gate_return).effect} tt e
   set_op w halt f c e d = plain_effect {e = (table s w halt).effect} tt e
 
   -- A step that sets a label.

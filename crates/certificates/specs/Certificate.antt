@@ -9,7 +9,7 @@ use Rattle.causes.specs.Causes.{number_of, is_done}
 use Rattle.model.specs.Numbers.{letter_v, letter_x}
 use Rattle.model.specs.declared.Fixed.{Fixed}
 use Rattle.model.specs.Record.{Bank, State, in_upcall}
-use Rattle.model.specs.Word.{Op, immediate, arithmetic, load as loadWord, store, branch, jump, readClock, set_label, setPair, upcall, endUpcall, gate_call, gateReturn, halt, raise, relabel}
+use Rattle.model.specs.Word.{Op, immediate, arithmetic, load as load_word, store, branch, jump, read_clock, set_label, set_pair, upcall, end_upcall, gate_call, gate_return, halt, raise, relabel}
 use Rattle.model.specs.WellFormed.{no_gate}
 use Rattle.model.specs.Ops.{is_label, p, La, Lb, Rb}
 use Rattle.model.specs.Step.{Fetched, failed, fetched, fetch, is_carried, decide, step, steps}
@@ -25,18 +25,18 @@ use Rattle.noninterference.specs.Noninterference.{Invocation, trace, at_tick, re
 abbrev pub is_relabelling : Op → Bool
 is_relabelling immediate = false
 is_relabelling (arithmetic f) = false
-is_relabelling loadWord = false
+is_relabelling load_word = false
 is_relabelling store = false
 is_relabelling (branch f) = false
 is_relabelling jump = false
-is_relabelling readClock = false
+is_relabelling read_clock = false
 is_relabelling (set_label raise) = false
 is_relabelling (set_label relabel) = true
-is_relabelling setPair = false
+is_relabelling set_pair = false
 is_relabelling upcall = false
-is_relabelling endUpcall = false
+is_relabelling end_upcall = false
 is_relabelling gate_call = false
-is_relabelling gateReturn = false
+is_relabelling gate_return = false
 is_relabelling halt = false
 
 -- It is tried with p within ℓ, on a location whose label is outside; Rb is a label within; Lb flows to p; and the part of

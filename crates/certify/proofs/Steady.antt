@@ -6,7 +6,7 @@ use mathlib.Core.Bool.{true, false, ◌&&◌, and-false}
 use lib.Dec.{ltb}
 use Rattle.model.specs.declared.Control.{Control}
 use Rattle.model.specs.Record.{State, newest, in_upcall}
-use Rattle.model.specs.Word.{Op, immediate, arithmetic, load, store, branch, jump, readClock, set_label, setPair, upcall, endUpcall, gate_call, gateReturn, halt}
+use Rattle.model.specs.Word.{Op, immediate, arithmetic, load, store, branch, jump, read_clock, set_label, set_pair, upcall, end_upcall, gate_call, gate_return, halt}
 use Rattle.model.specs.Ops.{Row, table}
 use Rattle.model.specs.Step.{Fetched, failed, fetched, fetch, Decision, rest, spend, stall, close, carry, is_carried, end_tick, passed, attempt, in_time, plan, beyond_limit, in_limit, running, decide, control_after, changed, step}
 use Rattle.noninterference.specs.Noninterference.{timed_from_outside}
@@ -39,13 +39,13 @@ module _ (s : State) where
   passed_keeps w ticks store e h = record { pair = refl; first = refl; second = refl }
   passed_keeps w ticks (branch f) e h = record { pair = refl; first = refl; second = refl }
   passed_keeps w ticks jump e h = record { pair = refl; first = refl; second = refl }
-  passed_keeps w ticks readClock e h = record { pair = refl; first = refl; second = refl }
+  passed_keeps w ticks read_clock e h = record { pair = refl; first = refl; second = refl }
   passed_keeps w ticks (set_label f) e h = clash refl (sym e)
-  passed_keeps w ticks setPair e h = clash refl (sym e)
+  passed_keeps w ticks set_pair e h = clash refl (sym e)
   passed_keeps w ticks upcall e h = clash refl (sym e)
-  passed_keeps w ticks endUpcall e h = clash refl (sym e)
+  passed_keeps w ticks end_upcall e h = clash refl (sym e)
   passed_keeps w ticks gate_call e h = clash refl (sym e)
-  passed_keeps w ticks gateReturn e h = clash refl (sym e)
+  passed_keeps w ticks gate_return e h = clash refl (sym e)
   passed_keeps w ticks halt e h = clash refl (sym e)
 
   attempt_keeps : (r : Row) → Keeps s (passed r.ticks r.effect) → Keeps s (attempt s r)

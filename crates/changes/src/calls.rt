@@ -5,7 +5,7 @@ ghost use Rattle.model.specs.declared.Fixed.{Fixed};
 ghost use Rattle.model.specs.Numbers.{value_count};
 ghost use Rattle.model.specs.Record.{state_from};
 ghost use Rattle.model.specs.WellFormed.{no_gate};
-ghost use Rattle.model.specs.Word.{upcall, gate_call, gateReturn};
+ghost use Rattle.model.specs.Word.{upcall, gate_call, gate_return};
 ghost use Rattle.parts.specs.Live.{control_of};
 ghost use Rattle.parts.specs.Stages.{change_of};
 ghost use Rattle.changes.specs.Changes.{changed, FitsIn};
@@ -115,7 +115,7 @@ pub fn call_gate(
 
 // Op 21.
 pub fn return_gate(live: Live) -> Change
-    ensures { ((w : ℕ) (fixed : Fixed) (values labels words marks : List ℕ) → change_of result ≡ changed gateReturn w (state_from fixed (control_of live) values labels words marks)) × FitsIn 4 live result }
+    ensures { ((w : ℕ) (fixed : Fixed) (values labels words marks : List ℕ) → change_of result ≡ changed gate_return w (state_from fixed (control_of live) values labels words marks)) × FitsIn 4 live result }
 {
     let pair = live.pair;
     let call = live.newest;

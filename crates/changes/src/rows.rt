@@ -3,7 +3,7 @@ ghost use Rattle.std.specs.Prelude.{ℕ, ◌<◌, ◌≡◌, ◌&&◌, List};
 ghost use Rattle.labels.specs.Label.{label_count, flows, valid_pair};
 ghost use Rattle.model.specs.declared.Fixed.{Fixed};
 ghost use Rattle.model.specs.Record.{state_from};
-ghost use Rattle.model.specs.Word.{set_label, setPair};
+ghost use Rattle.model.specs.Word.{set_label, set_pair};
 ghost use Rattle.model.specs.Ops.{is_label, allows};
 ghost use Rattle.parts.specs.Live.{control_of};
 ghost use Rattle.parts.specs.Stages.{change_of};
@@ -88,7 +88,7 @@ pub fn set_pair(
     values: &[u32; REGISTER_COUNT],
     labels: &[Bits; REGISTER_COUNT],
 ) -> Change
-    ensures { ((fixed : Fixed) (words marks : List ℕ) → change_of result ≡ changed setPair w (state_from fixed (control_of live) values.now labels.now words marks)) × FitsIn 2 live result }
+    ensures { ((fixed : Fixed) (words marks : List ℕ) → change_of result ≡ changed set_pair w (state_from fixed (control_of live) values.now labels.now words marks)) × FitsIn 2 live result }
 {
     let pair = live.pair;
     let b = b_of(w);

@@ -11,7 +11,7 @@ use borrow.Author.Tests.{lt-ltb, le-ltb, eq-eqb, ne_eqb}
 use Rattle.model.specs.declared.Fixed.{Fixed}
 use Rattle.model.specs.Numbers.{unknown_op, by_its_end, by_spent_time, by_failure}
 use Rattle.model.specs.Record.{State, state_from, is_upcall, in_upcall}
-use Rattle.model.specs.Word.{Op, endUpcall, halt, op_field, decode}
+use Rattle.model.specs.Word.{Op, end_upcall, halt, op_field, decode}
 use Rattle.model.specs.Ops.{Row, table, write, nothing}
 use Rattle.model.specs.Step.{fetched, known, fault, attempt, passed, close, carry, in_time, plan}
 use Rattle.model.proofs.Truth.{either, clash}
@@ -103,13 +103,13 @@ module _ {reason : Reason} {fixed : Fixed} {live : Live} {values labels : List �
 module _ (w : ℕ) {fixed : Fixed} {live : Live} {values labels : List ℕ} where
   -- Op 19 in an upcall.
   pub end_closes : is_upcall (call_of live.newest) ≡ true
-      → Decides (Rest w) (λ s. plan s (fetched w endUpcall)) fixed live values labels (Close by_its_end)
+      → Decides (Rest w) (λ s. plan s (fetched w end_upcall)) fixed live values labels (Close by_its_end)
   unfolding attempt table
   end_closes u = record { is = λ words marks. rw (in_upcall_lem live, u); ready = u; suits = λ p. tt }
 
   -- Op 19 outside one.
   pub end_passes : is_upcall (call_of live.newest) ≡ false
-      → Decides (Rest w) (λ s. plan s (fetched w endUpcall)) fixed live values labels (Carry 1 Pass)
+      → Decides (Rest w) (λ s. plan s (fetched w end_upcall)) fixed live values labels (Carry 1 Pass)
   unfolding attempt table
   end_passes u =
       record { is = λ words marks. rw (in_upcall_lem live, u, in_upcall_lem live, u); ready = (omega arith, λ e. clash e u); suits = λ p. p }

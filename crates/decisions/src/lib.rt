@@ -3,7 +3,7 @@
 ghost use Rattle.std.specs.Prelude.{ℕ, ◌≡◌, List};
 ghost use Rattle.model.specs.declared.Fixed.{Fixed};
 ghost use Rattle.model.specs.Record.{state_from};
-ghost use Rattle.model.specs.Word.{endUpcall, halt};
+ghost use Rattle.model.specs.Word.{end_upcall, halt};
 ghost use Rattle.model.specs.Step.{fault, fetched, plan};
 ghost use Rattle.parts.specs.declared.stages.Reason.{Reason};
 ghost use Rattle.parts.specs.declared.stages.Reason.TheVariants.{Rest};
@@ -62,7 +62,7 @@ fn late(live: Live) -> Decision
 
 // Op 19.
 fn end_upcall(live: Live) -> Decision
-    ensures { (w : ℕ) (fixed : Fixed) (values labels : List ℕ) → Decides (Rest w) (λ s. plan s (fetched w endUpcall)) fixed live values labels result }
+    ensures { (w : ℕ) (fixed : Fixed) (values labels : List ℕ) → Decides (Rest w) (λ s. plan s (fetched w end_upcall)) fixed live values labels result }
 {
     if is_upcall(live.newest) {
         Decision::Close(BY_ITS_END)

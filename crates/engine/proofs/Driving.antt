@@ -17,7 +17,7 @@ use Rattle.model.specs.declared.Call.TheVariants.{Empty, Gate, Upcall}
 use Rattle.model.specs.Numbers.{most_words, most_ticks, most_gates}
 use Rattle.model.specs.Record.{Bank, State, lent, value_at, state_from, in_upcall, is_upcall, end_tick_of, newest}
 use mathlib.Core.Option.{Option, none, some}
-use Rattle.model.specs.Word.{op_field, decode, Op, immediate, arithmetic, load, store, branch, jump, readClock, set_label, setPair, upcall, endUpcall, gate_call, gateReturn, halt}
+use Rattle.model.specs.Word.{op_field, decode, Op, immediate, arithmetic, load, store, branch, jump, read_clock, set_label, set_pair, upcall, end_upcall, gate_call, gate_return, halt}
 use Rattle.model.specs.Ops.{table}
 use Rattle.model.specs.Step.{Decision as Decides, Fetched, failed, fetched, known, fetch_allowed, finish, finishes_by, fetch, moved, end_tick, in_limit, running, decide, written, write_of, control_after, with_control, apply, step, steps_by, run_to}
 use Rattle.model.proofs.Truth.{choice, either, clash, and_iff}
@@ -135,13 +135,13 @@ common_long s w load c = lit≤ tt
 common_long s w store c = lit≤ tt
 common_long s w (branch f) c = lit≤ tt
 common_long s w jump c = lit≤ tt
-common_long s w readClock c = lit≤ tt
+common_long s w read_clock c = lit≤ tt
 common_long s w (set_label f) c = clash refl (sym c)
-common_long s w setPair c = clash refl (sym c)
+common_long s w set_pair c = clash refl (sym c)
 common_long s w upcall c = clash refl (sym c)
-common_long s w endUpcall c = clash refl (sym c)
+common_long s w end_upcall c = clash refl (sym c)
 common_long s w gate_call c = clash refl (sym c)
-common_long s w gateReturn c = clash refl (sym c)
+common_long s w gate_return c = clash refl (sym c)
 common_long s w halt c = clash refl (sym c)
 
 -- So by the tick at which the first finishes there is no second.

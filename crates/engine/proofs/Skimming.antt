@@ -11,7 +11,7 @@ use lib.Dec.{eqb}
 use lib.ListN.{get_elem?}
 use borrow.Author.Tests.{ne_eqb, eqb-true, eqb-false, le-ltb, lt-ltb}
 use Rattle.model.specs.Record.{State}
-use Rattle.model.specs.Word.{Op, immediate, arithmetic, load, store, branch, jump, readClock, set_label, setPair, upcall, endUpcall, gate_call, gateReturn, halt, ops, decode, op_field}
+use Rattle.model.specs.Word.{Op, immediate, arithmetic, load, store, branch, jump, read_clock, set_label, set_pair, upcall, end_upcall, gate_call, gate_return, halt, ops, decode, op_field}
 use Rattle.model.specs.Step.{Fetched, failed, fetched, known, fetch, running, decide, step, steps}
 use Rattle.certificates.specs.Certificate.{is_relabelling}
 use Rattle.model.proofs.Truth.{choice, either, clash}
@@ -73,13 +73,13 @@ common_keeps (fetched w load) e = refl
 common_keeps (fetched w store) e = refl
 common_keeps (fetched w (branch f)) e = refl
 common_keeps (fetched w jump) e = refl
-common_keeps (fetched w readClock) e = refl
+common_keeps (fetched w read_clock) e = refl
 common_keeps (fetched w (set_label f)) e = clash refl (sym e)
-common_keeps (fetched w setPair) e = refl
+common_keeps (fetched w set_pair) e = refl
 common_keeps (fetched w upcall) e = refl
-common_keeps (fetched w endUpcall) e = refl
+common_keeps (fetched w end_upcall) e = refl
 common_keeps (fetched w gate_call) e = refl
-common_keeps (fetched w gateReturn) e = refl
+common_keeps (fetched w gate_return) e = refl
 common_keeps (fetched w halt) e = refl
 
 -- None of these ops does.

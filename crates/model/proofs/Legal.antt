@@ -19,7 +19,7 @@ use Rattle.model.specs.declared.CallGate.{CallGate}
 use Rattle.model.specs.Numbers.{zero_register, register_count}
 use Rattle.model.specs.Record.{State, Location, register, word, value_at, label_at, is_empty, is_gate, pair_of, newest, in_upcall}
 use Rattle.model.specs.WellFormed.{is_valid, no_gate}
-use Rattle.model.specs.Word.{Arithmetic, add, subtract, and, or, xor, less, multiply, divide, remainder, Rule, raise, relabel, Op, immediate, arithmetic, load, store, branch, jump, readClock, set_label, setPair, upcall, endUpcall, gate_call, gateReturn, halt, op_field, a_field, n_field, decode, compute}
+use Rattle.model.specs.Word.{Arithmetic, add, subtract, and, or, xor, less, multiply, divide, remainder, Rule, raise, relabel, Op, immediate, arithmetic, load, store, branch, jump, read_clock, set_label, set_pair, upcall, end_upcall, gate_call, gate_return, halt, op_field, a_field, n_field, decode, compute}
 use Rattle.model.specs.Ops.{writable, Write, nothing, value, label, Change, write, goto, enter, open_upcall, open_gate, close_gate, stop, Effect, does, ends, Row, allows, new_pair_allowed, may_upcall, may_call_gate, may_return, multiply_ticks, arithmetic_ticks, is_label, Ra, Rb, new_pair, gate, table}
 use Rattle.model.specs.Step.{known, fetch_allowed, fetch, Decision, rest, spend, stall, close, carry, end_tick, finish, fault, passed, attempt, in_time, plan, beyond_limit, in_limit, running, decide}
 use Rattle.model.proofs.Ready.{◌⊑◌, Ready, register_value}
@@ -208,7 +208,7 @@ module _ (s : State) (ready : Ready s) (w : ℕ) where
       }
   row_legal (branch f) = record { long = lit≤ tt; passes = λ e. carried goes }
   row_legal jump = record { long = lit≤ tt; passes = λ e. carried goes }
-  row_legal readClock =
+  row_legal read_clock =
       record {
         long = lit≤ tt;
         passes = λ e. let h = simp (and_iff, join_flows) at e in
@@ -220,7 +220,7 @@ module _ (s : State) (ready : Ready s) (w : ℕ) where
         passes = λ e. let h = simp and_iff at e in
             carried (writes (marks a_inside (writable_register _ h.1) f h.0.0.1 (label_lt _ h.0.0.0)));
       }
-  row_legal setPair =
+  row_legal set_pair =
       record {
         long = lit≤ tt;
         passes = λ e. let h = simp and_iff at e in
@@ -241,7 +241,7 @@ module _ (s : State) (ready : Ready s) (w : ℕ) where
               late = omega (arith, reads (a_field w));
             }));
       }
-  row_legal endUpcall = record { long = lit≤ tt; passes = λ e. ended e }
+  row_legal end_upcall = record { long = lit≤ tt; passes = λ e. ended e }
   row_legal gate_call =
       record {
         long = lit≤ tt;
@@ -258,7 +258,7 @@ module _ (s : State) (ready : Ready s) (w : ℕ) where
               timing = record { holds = h.0.1 };
             }));
       }
-  row_legal gateReturn =
+  row_legal gate_return =
       record {
         long = lit≤ tt;
         passes = λ e. let h = simp (and_iff, join_flows, flows_meet) at e in

@@ -11,7 +11,7 @@ use Rattle.model.specs.declared.Request.{Request}
 use Rattle.model.specs.declared.Request.TheVariants.{Step, Run, RunTo}
 use Rattle.model.specs.Record.{State, state_of}
 use Rattle.model.specs.WellFormed.{lent_whole}
-use Rattle.model.specs.Word.{Op, immediate, arithmetic, load, store, branch, jump, readClock, set_label, setPair, upcall, endUpcall, gate_call, gateReturn, halt}
+use Rattle.model.specs.Word.{Op, immediate, arithmetic, load, store, branch, jump, read_clock, set_label, set_pair, upcall, end_upcall, gate_call, gate_return, halt}
 use Rattle.model.specs.Ops.{Row, may_call_gate, Rb, table}
 use Rattle.model.specs.Step.{Fetched, failed, fetched, Decision, rest, finish, attempt, in_time, plan, in_limit, fetch, running, decide, apply, step, steps, run, finishes_by, step_by, steps_by, run_to}
 use Rattle.model.specs.Answer.{work, answer}
@@ -37,13 +37,13 @@ module _ (s : State) (r : Ready s) where
   passes w store e = refl
   passes w (branch f) e = refl
   passes w jump e = refl
-  passes w readClock e = refl
+  passes w read_clock e = refl
   passes w (set_label f) e = refl
-  passes w setPair e = refl
+  passes w set_pair e = refl
   passes w upcall e = refl
-  passes w endUpcall e = refl
+  passes w end_upcall e = refl
   passes w gate_call e = let h = simp and_iff at e in r.fit.fixed.pairs (Rb s w) (ltb-true _ _ h.0.0.0.1)
-  passes w gateReturn e = refl
+  passes w gate_return e = refl
   passes w halt e = refl
 
   -- So the row is the one with the test, and so are the plan, the decision and the step.

@@ -10,7 +10,7 @@ use native.Mathlib.Omega.{arith}
 use lib.Dec.{ltb, eqb}
 use borrow.Author.Tests.{ltb-false, le-leb, lt-leb}
 use Rattle.model.specs.Record.{State, machine_of, in_upcall}
-use Rattle.model.specs.Word.{Op, immediate, arithmetic, load, store, branch, jump, readClock, set_label, setPair, upcall, endUpcall, gate_call, gateReturn, halt}
+use Rattle.model.specs.Word.{Op, immediate, arithmetic, load, store, branch, jump, read_clock, set_label, set_pair, upcall, end_upcall, gate_call, gate_return, halt}
 use Rattle.model.specs.Ops.{table}
 use Rattle.model.specs.Step.{Decision, rest, spend, stall, close, carry, Fetched, failed, fetched, end_tick, passed, attempt, in_time, fault, plan, fetch, finish, beyond_limit, in_limit, running, decide, step, steps, run, finishes_by, step_by, steps_by, run_to}
 use Rattle.model.proofs.Truth.{choice, either, and_iff, or_iff}
@@ -120,13 +120,13 @@ row_closing s w load e = tt
 row_closing s w store e = tt
 row_closing s w (branch f) e = tt
 row_closing s w jump e = tt
-row_closing s w readClock e = tt
+row_closing s w read_clock e = tt
 row_closing s w (set_label f) e = tt
-row_closing s w setPair e = tt
+row_closing s w set_pair e = tt
 row_closing s w upcall e = tt
-row_closing s w endUpcall e = e
+row_closing s w end_upcall e = e
 row_closing s w gate_call e = tt
-row_closing s w gateReturn e = tt
+row_closing s w gate_return e = tt
 row_closing s w halt e = tt
 
 attempt_closing : (s : State) (w : ℕ) (op : Op) → Closing s (attempt s (table s w op))

@@ -15,7 +15,7 @@ use Rattle.labels.specs.Label.{flows}
 use Rattle.principals.proofs.Laws.{join_flows}
 use Rattle.model.specs.declared.Control.{Control}
 use Rattle.model.specs.Record.{State, Location, register, word, value_at, label_at, in_upcall}
-use Rattle.model.specs.Word.{Arithmetic, add, subtract, and, or, xor, less, multiply, divide, remainder, Op, immediate, arithmetic, load, store, branch, jump, readClock, set_label, setPair, upcall, endUpcall, gate_call, gateReturn, halt, a_field, b_field, c_field, d_field, n_field, decode, op_field}
+use Rattle.model.specs.Word.{Arithmetic, add, subtract, and, or, xor, less, multiply, divide, remainder, Op, immediate, arithmetic, load, store, branch, jump, read_clock, set_label, set_pair, upcall, end_upcall, gate_call, gate_return, halt, a_field, b_field, c_field, d_field, n_field, decode, op_field}
 use Rattle.model.specs.WellFormed.{no_gate}
 use Rattle.model.specs.Ops.{Write, nothing, value, label, write, goto, enter, open_upcall, open_gate, close_gate, stop, Effect, does, ends, Row, row, new_pair_allowed, may_upcall, may_call_gate, may_return, multiply_count, multiply_ticks, arithmetic_ticks, Rb, Rc, visible, gate, table}
 use Rattle.model.specs.Step.{Fetched, failed, fetched, known, fetch_allowed, fetch, Decision, rest, spend, stall, close, carry, end_tick, finish, fault, attempt, in_time, plan, beyond_limit, in_limit, running, decide, cause_allowed, cause_write, write_of, written, with_control, changed, control_after, apply, step}
@@ -127,13 +127,13 @@ module _ {sees : ℕ → Bool} {c : Control} {a b : State} (h : Together sees c 
       rw (la.0, la.1, lb.0, lb.1)
   row_equal jump e v =
       let lb = equal h.pc (register (b_field w)) (b_exists one w) e in rw (lb.0, lb.1)
-  row_equal readClock e (sight.sets v) = rw (seen_equal h.alike (register (a_field w)) (a_exists one w) v).0
+  row_equal read_clock e (sight.sets v) = rw (seen_equal h.alike (register (a_field w)) (a_exists one w) v).0
   row_equal (set_label f) e (sight.marks v) =
       let k = simp and_iff at e in
       let la = seen_equal h.alike (register (a_field w)) (a_exists one w) v in
       let lb = equal h.pc (register (b_field w)) (b_exists one w) k.0.1 in
       rw (la.0, lb.0, lb.1)
-  row_equal setPair e v =
+  row_equal set_pair e v =
       let k = simp and_iff at e in
       let lb = equal h.pc (register (b_field w)) (b_exists one w) k.0.0.0.1 in
       let lc = equal h.pc (register (c_field w)) (c_exists one w) k.0.0.1 in
@@ -145,14 +145,14 @@ module _ {sees : ℕ → Bool} {c : Control} {a b : State} (h : Together sees c 
       let lc = equal h.pc (register (c_field w)) (c_exists one w) k.0.0.0.1.1 in
       let ld = equal h.pc (register (d_field w)) (d_exists one w) k.1 in
       rw (la.0, la.1, lb.0, lb.1, lc.0, lc.1, ld.0, ld.1)
-  row_equal endUpcall e v = refl
+  row_equal end_upcall e v = refl
   row_equal gate_call e v =
       let k = simp and_iff at e in
       let lb = equal h.pc (register (b_field w)) (b_exists one w) k.1 in
       let lg : gate one w ≡ get_or b.fixed.gates (Rb one w) no_gate =
       h.setting.gates (Rb one w) (ltb-true _ _ k.0.0.0.1) in
       let count : a.fixed.count ≡ b.fixed.count = h.setting.count in rw (lg, lb.0, lb.1, count)
-  row_equal gateReturn e v = refl
+  row_equal gate_return e v = refl
   row_equal halt e v = refl
 
 -- ---- decisions, but for what they write
@@ -420,13 +420,13 @@ module _ {sees : ℕ → Bool} {c : Control} {a b : State} (h : Together sees c 
     row_similar w store = similar_write _ _ _ _ _ _ refl (row_equal h w store) (row_back w store)
     row_similar w (branch f) = steers w (branch f) refl refl tt tt
     row_similar w jump = steers w jump refl refl tt tt
-    row_similar w readClock = similar_write _ _ _ _ _ _ refl (row_equal h w readClock) (row_back w readClock)
+    row_similar w read_clock = similar_write _ _ _ _ _ _ refl (row_equal h w read_clock) (row_back w read_clock)
     row_similar w (set_label f) = similar_write _ _ _ _ _ _ refl (row_equal h w (set_label f)) (row_back w (set_label f))
-    row_similar w setPair = steers w setPair refl refl tt tt
+    row_similar w set_pair = steers w set_pair refl refl tt tt
     row_similar w upcall = steers w upcall refl refl tt tt
-    row_similar w endUpcall = steers w endUpcall refl refl tt tt
+    row_similar w end_upcall = steers w end_upcall refl refl tt tt
     row_similar w gate_call = steers w gate_call refl refl tt tt
-    row_similar w gateReturn = steers w gateReturn refl refl tt tt
+    row_similar w gate_return = steers w gate_return refl refl tt tt
     row_similar w halt = steers w halt refl refl tt tt
 
     -- What would happen.

@@ -9,7 +9,7 @@ use Rattle.model.specs.declared.Pair.{Pair}
 use Rattle.model.specs.declared.CallGate.{CallGate}
 use Rattle.model.specs.Record.{State, Location, register, word, value_at, label_at, is_empty, is_gate, pair_of, newest, in_upcall}
 use Rattle.model.specs.WellFormed.{is_valid, no_gate}
-use Rattle.model.specs.Word.{Arithmetic, add, subtract, and, or, xor, less, multiply, divide, remainder, Comparison, equal, below, Rule, raise, relabel, Op, immediate, arithmetic, load, store, branch, jump, readClock, set_label, setPair, upcall, endUpcall, gate_call, gateReturn, halt, a_field, b_field, c_field, d_field, n_field, compute}
+use Rattle.model.specs.Word.{Arithmetic, add, subtract, and, or, xor, less, multiply, divide, remainder, Comparison, equal, below, Rule, raise, relabel, Op, immediate, arithmetic, load, store, branch, jump, read_clock, set_label, set_pair, upcall, end_upcall, gate_call, gate_return, halt, a_field, b_field, c_field, d_field, n_field, compute}
 
 -- ---- effects
 
@@ -202,13 +202,13 @@ module _ (s : State) (w : ℕ) where
   table store = row (in_memory && flows (join (join p Lb) La) Lw) (does (write (value (word Rb) Ra))) 3
   table (branch f) = strict_row (flows (join La Lb) p) (does (goto (cond (holds f Ra Rb) (n_field w) next))) 1
   table jump = strict_row (flows Lb p) (does (goto Rb)) 1
-  table readClock = row (flows (join p t) La && writable (a_field w)) (sets (s.control.clock % 2 ^ 32)) 1
+  table read_clock = row (flows (join p t) La && writable (a_field w)) (sets (s.control.clock % 2 ^ 32)) 1
   table (set_label f) =
       row (is_label Rb && allows f p La Rb && flows Lb p && writable (a_field w))
       (does (write (label (register (a_field w)) Rb))) 2
-  table setPair = row (new_pair_allowed && flows p Rb && flows t Rc) (does (enter new_pair)) 2
+  table set_pair = row (new_pair_allowed && flows p Rb && flows t Rc) (does (enter new_pair)) 2
   table upcall = row may_upcall (does (open_upcall Rd new_pair (s.control.clock + 2 + Ra))) 2
-  table endUpcall = row (in_upcall s.control) ends 1
+  table end_upcall = row (in_upcall s.control) ends 1
   table gate_call = row may_call_gate (does (open_gate gate)) 4
-  table gateReturn = row may_return (does close_gate) 4
+  table gate_return = row may_return (does close_gate) 4
   table halt = strict_row (not (in_upcall s.control)) (does stop) 1

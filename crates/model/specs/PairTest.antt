@@ -6,7 +6,7 @@ use Rattle.model.specs.declared.Request.{Request}
 use Rattle.model.specs.declared.Request.TheVariants.{Step, Run, RunTo}
 use Rattle.model.specs.Record.{Bank, Machine, State, state_of}
 use Rattle.model.specs.WellFormed.{is_valid, well_formed}
-use Rattle.model.specs.Word.{Op, immediate, arithmetic, load, store, branch, jump, readClock, set_label, setPair, upcall, endUpcall, gate_call, gateReturn, halt}
+use Rattle.model.specs.Word.{Op, immediate, arithmetic, load, store, branch, jump, read_clock, set_label, set_pair, upcall, end_upcall, gate_call, gate_return, halt}
 use Rattle.model.specs.Ops.{Row, gate, table}
 use Rattle.model.specs.Step.{Fetched, failed, fetched, Decision, rest, finish, fault, attempt, in_time, in_limit, fetch, running, apply}
 use Rattle.model.specs.Answer.{Answer, answer, answer_of}
@@ -22,13 +22,13 @@ pair_test s w load = true
 pair_test s w store = true
 pair_test s w (branch f) = true
 pair_test s w jump = true
-pair_test s w readClock = true
+pair_test s w read_clock = true
 pair_test s w (set_label f) = true
-pair_test s w setPair = true
+pair_test s w set_pair = true
 pair_test s w upcall = true
-pair_test s w endUpcall = true
+pair_test s w end_upcall = true
 pair_test s w gate_call = is_valid (gate s w).pair
-pair_test s w gateReturn = true
+pair_test s w gate_return = true
 pair_test s w halt = true
 
 -- A row of the table with the test beside its check.

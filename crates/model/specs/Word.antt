@@ -49,9 +49,9 @@ pub data Op : Type 0 where
   arithmetic : Arithmetic → Op
   load store : Op
   branch : Comparison → Op
-  jump readClock : Op
+  jump read_clock : Op
   set_label : Rule → Op
-  setPair upcall endUpcall gate_call gateReturn halt : Op
+  set_pair upcall end_upcall gate_call gate_return halt : Op
 
 -- The ops in the order of their numbers, from 1 to 24.
 abbrev pub ops : List Op
@@ -69,14 +69,14 @@ ops =
     ∷ branch equal
     ∷ branch below
     ∷ jump
-    ∷ readClock
+    ∷ read_clock
     ∷ set_label raise
     ∷ set_label relabel
-    ∷ setPair
+    ∷ set_pair
     ∷ upcall
-    ∷ endUpcall
+    ∷ end_upcall
     ∷ gate_call
-    ∷ gateReturn
+    ∷ gate_return
     ∷ halt
     ∷ arithmetic divide
     ∷ arithmetic remainder

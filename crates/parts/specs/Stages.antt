@@ -3,7 +3,7 @@
 use Rattle.std.specs.Prelude.{ℕ, ◌+◌, ◌^◌, ◌≤◌, ◌<◌, ◌≡◌, Bool, true, false, cond}
 use Rattle.model.specs.Numbers.{register_count, outside_memory, unreadable, unknown_op, by_spent_time}
 use Rattle.model.specs.Record.{State, register, is_empty, is_upcall, in_upcall}
-use Rattle.model.specs.Word.{Op, immediate, arithmetic, load, store, branch, jump, readClock, set_label, setPair, upcall, endUpcall, gate_call, gateReturn, halt, op_field, decode}
+use Rattle.model.specs.Word.{Op, immediate, arithmetic, load, store, branch, jump, read_clock, set_label, set_pair, upcall, end_upcall, gate_call, gate_return, halt, op_field, decode}
 use Rattle.model.specs.Ops as ops
 use Rattle.model.specs.Step as model
 use Rattle.parts.specs.declared.live.Live.{Live}
@@ -45,13 +45,13 @@ is_common_op load = true
 is_common_op store = true
 is_common_op (branch f) = true
 is_common_op jump = true
-is_common_op readClock = true
+is_common_op read_clock = true
 is_common_op (set_label f) = false
-is_common_op setPair = false
+is_common_op set_pair = false
 is_common_op upcall = false
-is_common_op endUpcall = false
+is_common_op end_upcall = false
 is_common_op gate_call = false
-is_common_op gateReturn = false
+is_common_op gate_return = false
 is_common_op halt = false
 
 -- The word that was fetched has such an op.

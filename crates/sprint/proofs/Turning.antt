@@ -8,7 +8,7 @@ use Rattle.principals.specs.Principals.{may_go}
 use Rattle.labels.specs.Label.{label_count, restrictions, lacking}
 use Rattle.model.specs.Numbers.{register_count, by_failure}
 use Rattle.model.specs.Record.{State, register, word, value_at, label_at, in_upcall}
-use Rattle.model.specs.Word.{Arithmetic, Comparison, Op, immediate, arithmetic, load, store, branch, jump, readClock, a_field, b_field, c_field, n_field}
+use Rattle.model.specs.Word.{Arithmetic, Comparison, Op, immediate, arithmetic, load, store, branch, jump, read_clock, a_field, b_field, c_field, n_field}
 use Rattle.model.specs.Ops.{writable, holds, Write, nothing, value, Change, write, goto, does, Row, row, strict_row, table}
 use Rattle.model.specs.Step.{close, carry, fetch, fetched, end_tick, finish, attempt, in_time, plan, beyond_limit, in_limit, running, decide, written, write_of, changed, control_after, apply, step}
 use Rattle.model.proofs.Legal.{ticks_long}
@@ -378,7 +378,7 @@ module _ {s : State} {context : Context} {spot : Spot} {values labels turned wor
       goes_row due f refl ok true (get_or values b 0) (rw (← onward) e) (rw (eo, i.rb, one_goes (record { is = ex; below = p }) (held (b_field w) (b_below w)))) refl refl
 
   -- Op 14.
-  pub clock_turn : fetch here ≡ fetched w readClock → {r : Turn} {values' : List ℕ} → ClockTurn context spot values turned r values'
+  pub clock_turn : fetch here ≡ fetched w read_clock → {r : Turn} {values' : List ℕ} → ClockTurn context spot values turned r values'
       → Turns r values' words
   unfolding table label_at
   clock_turn f e =

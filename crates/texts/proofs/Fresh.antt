@@ -18,7 +18,7 @@ use Rattle.causes.specs.Causes.{is_done}
 use Rattle.causes.proofs.Numbers.{is_done_lem}
 use Rattle.model.specs.declared.Control.{Control}
 use Rattle.model.specs.Record.{Bank, Machine, State, Location, register, word, value_at, label_at, machine_of, state_of}
-use Rattle.model.specs.Word.{Op, immediate, arithmetic, load as loadWord, store, branch, jump, readClock, set_label, setPair, upcall, endUpcall, gate_call, gateReturn, halt}
+use Rattle.model.specs.Word.{Op, immediate, arithmetic, load as load_word, store, branch, jump, read_clock, set_label, set_pair, upcall, end_upcall, gate_call, gate_return, halt}
 use Rattle.model.specs.Ops.{Write, nothing, value, label, new_pair_allowed, may_upcall, may_call_gate, may_return, Rb, table}
 use Rattle.model.specs.Step.{Fetched, failed, fetched, fetch, Decision, rest, spend, stall, close, carry, end_tick, finish, fault, attempt, in_time, plan, beyond_limit, in_limit, running, decide, written, cause_allowed, cause_write, write_of, control_after, with_control, apply, step, steps, run, finishes_by, step_by, steps_by, run_to}
 use Rattle.model.specs.Seen.{exists, seen_by, seen_at, seen_control, LowEquivalent}
@@ -74,7 +74,7 @@ module _ (r : Machine) (m n : Bank) (a : Agree r.fixed.size m n) where
   unfolding attempt table new_pair_allowed may_upcall may_call_gate may_return value_at label_at
   attempt_same w immediate = refl
   attempt_same w (arithmetic f) = refl
-  attempt_same w loadWord =
+  attempt_same w load_word =
       ⊎_elim
       (λ (e : ltb (Rb one w) r.fixed.size ≡ true).
       let h = ltb-true _ _ e in rw (a.values (Rb one w) h, a.labels (Rb one w) h))
@@ -87,13 +87,13 @@ module _ (r : Machine) (m n : Bank) (a : Agree r.fixed.size m n) where
       (either (ltb (Rb one w) r.fixed.size))
   attempt_same w (branch f) = refl
   attempt_same w jump = refl
-  attempt_same w readClock = refl
+  attempt_same w read_clock = refl
   attempt_same w (set_label f) = refl
-  attempt_same w setPair = refl
+  attempt_same w set_pair = refl
   attempt_same w upcall = refl
-  attempt_same w endUpcall = refl
+  attempt_same w end_upcall = refl
   attempt_same w gate_call = refl
-  attempt_same w gateReturn = refl
+  attempt_same w gate_return = refl
   attempt_same w halt = refl
 
   -- The rest of a decision reads the record alone.

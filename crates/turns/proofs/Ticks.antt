@@ -8,7 +8,7 @@ use lib.ListN.{get_elem?}
 use Rattle.principals.specs.Principals.{may_go}
 use Rattle.labels.specs.Label.{label_count, lacking}
 use Rattle.model.specs.Record.{State, value_at, label_at}
-use Rattle.model.specs.Word.{add, subtract, and, or, xor, less, multiply, divide, remainder, equal, below, raise, relabel, Op, immediate, arithmetic, load, store, branch, jump, readClock, set_label, setPair, upcall, endUpcall, gate_call, gateReturn, halt, ops, op_field, b_field, c_field, decode}
+use Rattle.model.specs.Word.{add, subtract, and, or, xor, less, multiply, divide, remainder, equal, below, raise, relabel, Op, immediate, arithmetic, load, store, branch, jump, read_clock, set_label, set_pair, upcall, end_upcall, gate_call, gate_return, halt, ops, op_field, b_field, c_field, decode}
 use Rattle.model.specs.Ops.{multiply_ticks, arithmetic_ticks, visible, table}
 use Rattle.model.proofs.Multiply.{count_le}
 use Rattle.model.specs.Step.{Fetched, failed, fetched, known}
@@ -35,14 +35,14 @@ number store = 10
 number (branch equal) = 11
 number (branch below) = 12
 number jump = 13
-number readClock = 14
+number read_clock = 14
 number (set_label raise) = 15
 number (set_label relabel) = 16
-number setPair = 17
+number set_pair = 17
 number upcall = 18
-number endUpcall = 19
+number end_upcall = 19
 number gate_call = 20
-number gateReturn = 21
+number gate_return = 21
 number halt = 22
 number (arithmetic divide) = 23
 number (arithmetic remainder) = 24
@@ -102,13 +102,13 @@ one_tick n load visible v e h = absurd (h.0.0.0.1 e)
 one_tick n store visible v e h = absurd (h.0.0.1 e)
 one_tick n (branch f) visible v e h = refl
 one_tick n jump visible v e h = refl
-one_tick n readClock visible v e h = refl
+one_tick n read_clock visible v e h = refl
 one_tick n (set_label f) visible v e h = refl
-one_tick n setPair visible v e h = refl
+one_tick n set_pair visible v e h = refl
 one_tick n upcall visible v e h = refl
-one_tick n endUpcall visible v e h = refl
+one_tick n end_upcall visible v e h = refl
 one_tick n gate_call visible v e h = refl
-one_tick n gateReturn visible v e h = refl
+one_tick n gate_return visible v e h = refl
 one_tick n halt visible v e h = refl
 
 -- Whether the operands of a word may show in the time.
@@ -160,13 +160,13 @@ module _ (w t : ℕ) (s : State) {values turned : List ℕ} (b : t < label_count
   row_ticks store c = refl
   row_ticks (branch f) c = refl
   row_ticks jump c = refl
-  row_ticks readClock c = refl
+  row_ticks read_clock c = refl
   row_ticks (set_label f) c = absurd (false≢true c)
-  row_ticks setPair c = absurd (false≢true c)
+  row_ticks set_pair c = absurd (false≢true c)
   row_ticks upcall c = absurd (false≢true c)
-  row_ticks endUpcall c = absurd (false≢true c)
+  row_ticks end_upcall c = absurd (false≢true c)
   row_ticks gate_call c = absurd (false≢true c)
-  row_ticks gateReturn c = absurd (false≢true c)
+  row_ticks gate_return c = absurd (false≢true c)
   row_ticks halt c = absurd (false≢true c)
 
 -- No op takes more than 34.
@@ -186,13 +186,13 @@ few_ticks load visible v = omega arith
 few_ticks store visible v = omega arith
 few_ticks (branch f) visible v = omega arith
 few_ticks jump visible v = omega arith
-few_ticks readClock visible v = omega arith
+few_ticks read_clock visible v = omega arith
 few_ticks (set_label f) visible v = omega arith
-few_ticks setPair visible v = omega arith
+few_ticks set_pair visible v = omega arith
 few_ticks upcall visible v = omega arith
-few_ticks endUpcall visible v = omega arith
+few_ticks end_upcall visible v = omega arith
 few_ticks gate_call visible v = omega arith
-few_ticks gateReturn visible v = omega arith
+few_ticks gate_return visible v = omega arith
 few_ticks halt visible v = omega arith
 
 -- The ticks at a word are those of its common op.

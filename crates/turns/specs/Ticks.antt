@@ -4,7 +4,7 @@ use Rattle.std.specs.Prelude.{◌≡◌, ℕ, ◌≤◌, Bool, true, List, bit_o
 use Rattle.principals.specs.Principals.{may_go}
 use Rattle.labels.specs.Label.{lacking}
 use Rattle.model.specs.Record.{State}
-use Rattle.model.specs.Word.{Op, immediate, arithmetic, load, store, branch, jump, readClock, set_label, setPair, upcall, endUpcall, gate_call, gateReturn, halt, op_field, b_field, c_field, decode}
+use Rattle.model.specs.Word.{Op, immediate, arithmetic, load, store, branch, jump, read_clock, set_label, set_pair, upcall, end_upcall, gate_call, gate_return, halt, op_field, b_field, c_field, decode}
 use Rattle.model.specs.Ops.{arithmetic_ticks, table}
 use Rattle.model.specs.Step.{Fetched, failed, fetched, known}
 use Rattle.parts.specs.Stages.{is_common_op}
@@ -18,13 +18,13 @@ common_ticks load visible v = 3
 common_ticks store visible v = 3
 common_ticks (branch f) visible v = 1
 common_ticks jump visible v = 1
-common_ticks readClock visible v = 1
+common_ticks read_clock visible v = 1
 common_ticks (set_label f) visible v = 1
-common_ticks setPair visible v = 1
+common_ticks set_pair visible v = 1
 common_ticks upcall visible v = 1
-common_ticks endUpcall visible v = 1
+common_ticks end_upcall visible v = 1
 common_ticks gate_call visible v = 1
-common_ticks gateReturn visible v = 1
+common_ticks gate_return visible v = 1
 common_ticks halt visible v = 1
 
 -- The same of a word that may have no op.

@@ -6,7 +6,7 @@ use mathlib.Core.List.{List}
 use borrow.Author.Rules.{rules}
 use Rattle.model.specs.declared.Fixed.{Fixed}
 use Rattle.model.specs.Record.{state_from}
-use Rattle.model.specs.Word.{gateReturn}
+use Rattle.model.specs.Word.{gate_return}
 use Rattle.model.specs.Ops.{close_gate, does, row, may_return, table}
 use Rattle.parts.specs.Live.{control_of}
 use Rattle.parts.proofs.Frames.{newest_is}
@@ -16,7 +16,7 @@ use Rattle.changes.proofs.calls.return_gate.Goals.{After-flows_to}
 
 -- The row, where the newest call is a gate call: its check is what the code tests last.
 row_is : (c : After-flows_to) (w : ℕ) (fixed : Fixed) (values labels words marks : List ℕ)
-    → table (state_from fixed (control_of c.args.live) values labels words marks) w gateReturn
+    → table (state_from fixed (control_of c.args.live) values labels words marks) w gate_return
     ≡ row c.flows_to.result (does close_gate) 4
 unfolding table may_return
 row_is c w fixed values labels words marks =

@@ -7,7 +7,7 @@ use mathlib.Core.List.{List}
 use borrow.Author.Rules.{rules}
 use Rattle.model.specs.declared.Fixed.{Fixed}
 use Rattle.model.specs.Record.{state_from, value_at, label_at}
-use Rattle.model.specs.Word.{setPair}
+use Rattle.model.specs.Word.{set_pair}
 use Rattle.model.specs.Ops.{enter, does, row, new_pair_allowed, table}
 use Rattle.parts.specs.Live.{control_of}
 use Rattle.changes.proofs.Calling.{pair_below}
@@ -23,7 +23,7 @@ label_of-timing-requires c = (pair_below _ _ _ _ _ c.new_pair_allowed.ensures c.
 -- The row, where the values are labels of a valid pair and may be read: its check is what the code tests last.
 row_is : (c : After-flows_to-then-new_pair_allowed) (fixed : Fixed) (words marks : List ℕ)
     → let args = c.args in
-    table (state_from fixed (control_of args.live) args.values.now args.labels.now words marks) args.w setPair
+    table (state_from fixed (control_of args.live) args.values.now args.labels.now words marks) args.w set_pair
     ≡ row (c.flows_to.result && c.flows_to-then-new_pair_allowed.result)
     (does (enter (record { pc = c.label_of-pc.result; timing = c.label_of-timing.result }))) 2
 unfolding table new_pair_allowed value_at label_at

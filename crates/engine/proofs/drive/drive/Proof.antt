@@ -63,8 +63,8 @@ AskedAt c p =
     (started c).args.fixed.limit c.before.before.before.before.before.before.tick-of.result
 
 -- The task from the control that the loop began with, at a pace.
-abbrev taskAt : tie.At-loop invariant-loop decreases-loop → Pace → Task
-taskAt c p = record { start = control_of c.before.before.before.live_of_lem.result; pace = p }
+abbrev task_at : tie.At-loop invariant-loop decreases-loop → Pace → Task
+task_at c p = record { start = control_of c.before.before.before.live_of_lem.result; pace = p }
 
 -- So is the task's own pace.
 asked : (c : tie.At-loop invariant-loop decreases-loop) → AskedAt c (started c).args.task.pace
@@ -81,13 +81,13 @@ lives c = frames.lives _ c.before.before.before.live_of_lem.ensures (started c).
 
 -- What holds at the loop's test.
 went : (c : tie.At-loop invariant-loop decreases-loop) (p : Pace) → AskedAt c p
-    → Went (started c).args.fixed (taskAt c p) (started c).args.values.now (started c).args.labels.now (started c).args.words.now
+    → Went (started c).args.fixed (task_at c p) (started c).args.values.now (started c).args.labels.now (started c).args.words.now
     (started c).args.marks.now c.loop.live c.loop.values c.loop.labels c.loop.turned c.loop.words
 went c p q = c.loop.invariant p q
 
 -- What is done from there is what was asked for.
 driven : (c : tie.At-loop invariant-loop decreases-loop) {r : Control} {values labels words : List ℕ}
-    → Driven (started c).args.fixed (taskAt c (started c).args.task.pace) (started c).args.values.now (started c).args.labels.now
+    → Driven (started c).args.fixed (task_at c (started c).args.task.pace) (started c).args.values.now (started c).args.labels.now
     (started c).args.words.now (started c).args.marks.now r values labels words
     → Driven (started c).args.fixed (started c).args.task (started c).args.values.now (started c).args.labels.now
     (started c).args.words.now (started c).args.marks.now r values labels words
@@ -168,7 +168,7 @@ module _ (c : tie.After-control-after invariant-loop decreases-loop) where
 
     -- What holds at the loop's test again.
     went-now : {turned : List ℕ} → (is_once p || is_stride p) ≡ false → Mirrors c.before.write-back.new.1.1.1.0 turned
-        → Went (started test).args.fixed (taskAt test p) (started test).args.values.now (started test).args.labels.now
+        → Went (started test).args.fixed (task_at test p) (started test).args.values.now (started test).args.labels.now
         (started test).args.words.now (started test).args.marks.now c.control-after.result c.before.write-back.new.1.1.0
         c.before.write-back.new.1.1.1.0 turned there.sprint.last.1.1.1.1.0
     went-now more mirrors =
@@ -186,7 +186,7 @@ module _ (c : tie.After-control-after invariant-loop decreases-loop) where
 
     -- It was all that was asked for.
     single-now : {r : Control} → (is_once p || is_stride p) ≡ true → r ≡ control_of c.control-after.result
-        → Driven (started test).args.fixed (taskAt test p) (started test).args.values.now (started test).args.labels.now
+        → Driven (started test).args.fixed (task_at test p) (started test).args.values.now (started test).args.labels.now
         (started test).args.words.now (started test).args.marks.now r c.before.write-back.new.1.1.0
         c.before.write-back.new.1.1.1.0 there.sprint.last.1.1.1.1.0
     single-now one e =
