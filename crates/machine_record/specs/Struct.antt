@@ -1,8 +1,8 @@
 -- The record of the machine's struct, in the model's terms.
 -- Assumes nothing.
-use Rattle.model.specs.Record as record_of
+use Rattle.model.specs.Record as records
 use Rattle.machine_record.specs.declared.Machine.{Machine}
 
 -- The record that a machine's struct is. It forgets nothing: proofs/Faithful.antt.
-abbrev pub record_of : Machine → record_of.Machine
+abbrev pub record_of : Machine → records.Machine
 record_of m = record { fixed = m.fixed; control = m.control; registers = record { values = m.values; labels = m.labels } }

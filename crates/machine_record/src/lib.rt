@@ -1,4 +1,6 @@
 // The machine's record: its struct, the record before the first step, and whether a record is well-formed and lent memory whole.
+#![tactic(auto)]
+
 ghost use Rattle.std.specs.Prelude.{◌≡◌};
 ghost use Rattle.model.specs.Record.{lent};
 ghost use Rattle.model.specs.WellFormed.{is_blank, well_formed, lent_whole};
