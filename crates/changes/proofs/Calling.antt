@@ -67,9 +67,8 @@ pair_below x y lb lc p e t = (is_below x both.0, is_below y both.1)
 
 -- ---- numbers of gates
 
--- Behind the last gate there is none. How many there are is known of the gates as they are stored.
-pub no_gate_lem : {A : Type 0} (stored : CallGate → A) (gates : List CallGate) (n k : ℕ) → length (map stored gates) ≡ n → n ≤ k
-    → no_gate ≡ get_or gates k no_gate
-no_gate_lem stored gates n k e h =
-    let beyond : length gates ≤ k = omega (arith, length-map gates stored) in
+-- Behind the last gate there is none.
+pub no_gate_lem : (gates : List CallGate) (n k : ℕ) → length gates ≡ n → n ≤ k → no_gate ≡ get_or gates k no_gate
+no_gate_lem gates n k e h =
+    let beyond : length gates ≤ k = omega (arith, e) in
     sym (get_or-eq_default gates no_gate beyond)

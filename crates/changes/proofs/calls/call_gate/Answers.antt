@@ -16,7 +16,7 @@ use Rattle.changes.proofs.calls.call_gate.Goals.{After-may_enter}
 
 -- No call is open.
 no_call : (c : After-may_enter) → is_empty (call_of c.args.live.newest) ≡ true
-no_call c = let free = c.before.before.before.before.before.before in sym free.is_empty.ensures ∙ free.if-is_empty.true
+no_call c = sym c.is_empty.ensures ∙ c.if-is_empty.true
 
 -- The row then, where the number is a gate's: its check is what the code tests last.
 row_is : (c : After-may_enter) (words marks : List ℕ)
@@ -25,31 +25,30 @@ row_is : (c : After-may_enter) (words marks : List ℕ)
     ≡ row c.may_enter.result (does (open_gate c.gate_at-gate.result)) 4
 unfolding table may_call_gate value_at label_at
 row_is c words marks =
-    let at = c.before.before.before in
     rw (
       newest_is _,
       no_call c,
-      ← at.b_of-b.ensures.0,
-      lt-ltb _ _ at.if-rb-fixed.true,
-      ← at.gate_at-gate.ensures,
+      ← c.b_of-b.ensures.0,
+      lt-ltb _ _ c.if-rb-fixed.true,
+      ← c.gate_at-gate.ensures,
       ← c.may_enter.ensures,
     )
 
 pub returns-then-may_enter : goal.returns-then-may_enter
 returns-then-may_enter c =
-    (λ words marks. rw (row_is c.before words marks, c.if-may_enter.true), λ p. (p, no_call c.before))
+    (λ words marks. rw (row_is (goal.at.returns-then-may_enter c).After-may_enter words marks, c.if-may_enter.true), λ p. (p, no_call (goal.at.returns-then-may_enter c).After-may_enter))
 
 pub returns-else-may_enter : goal.returns-else-may_enter
-returns-else-may_enter c = (λ words marks. rw (row_is c.before words marks, c.if-may_enter.false), λ p. p)
+returns-else-may_enter c = (λ words marks. rw (row_is (goal.at.returns-else-may_enter c).After-may_enter words marks, c.if-may_enter.false), λ p. p)
 
 pub returns-else-rb-fixed : goal.returns-else-rb-fixed
 unfolding table may_call_gate value_at label_at
 returns-else-rb-fixed c =
-    let free = c.before.before in (
+    (
       λ words marks. rw (
         newest_is _,
-        sym free.is_empty.ensures ∙ free.if-is_empty.true,
-        ← free.b_of-b.ensures.0,
+        sym c.is_empty.ensures ∙ c.if-is_empty.true,
+        ← c.b_of-b.ensures.0,
         le-ltb _ _ c.if-rb-fixed.false,
       ),
       λ p. p,

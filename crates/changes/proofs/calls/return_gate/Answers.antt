@@ -20,17 +20,16 @@ row_is : (c : After-flows_to) (w : ℕ) (fixed : Fixed) (values labels words mar
     ≡ row c.flows_to.result (does close_gate) 4
 unfolding table may_return
 row_is c w fixed values labels words marks =
-    let at = c.before.before.before in
-    let gate = sym at.is_gate.ensures ∙ at.if-is_gate.true in
+    let gate = sym c.is_gate.ensures ∙ c.if-is_gate.true in
     rw (newest_is _, gate, kept_pair_lem _ gate, ← c.join.ensures, ← c.meet.ensures, ← c.flows_to.ensures)
 
 pub returns-then-flows_to : goal.returns-then-flows_to
 returns-then-flows_to c =
-    (λ w fixed values labels words marks. rw (row_is c.before w fixed values labels words marks, c.if-flows_to.true), λ p. tt)
+    (λ w fixed values labels words marks. rw (row_is (goal.at.returns-then-flows_to c).After-flows_to w fixed values labels words marks, c.if-flows_to.true), λ p. tt)
 
 pub returns-else-flows_to : goal.returns-else-flows_to
 returns-else-flows_to c =
-    (λ w fixed values labels words marks. rw (row_is c.before w fixed values labels words marks, c.if-flows_to.false), λ p. p)
+    (λ w fixed values labels words marks. rw (row_is (goal.at.returns-else-flows_to c).After-flows_to w fixed values labels words marks, c.if-flows_to.false), λ p. p)
 
 pub returns-else-is_gate : goal.returns-else-is_gate
 unfolding table may_return

@@ -29,31 +29,28 @@ label_of-timing-requires c = (pair_below _ _ _ _ _ c.new_pair_allowed.ensures c.
 
 -- The newest call is no upcall.
 no-upcall : (c : After-may_upcall) → is_upcall (call_of c.args.live.newest) ≡ false
-no-upcall c = let out = c.before.before.before.before.before.before.before.before.before in sym out.is_upcall.ensures ∙ out.if-is_upcall.false
+no-upcall c = sym c.is_upcall.ensures ∙ c.if-is_upcall.false
 
 -- The row then, where the values are labels of a valid pair and may be read: its check is what the code tests last.
 row_is : (c : After-may_upcall) (fixed : Fixed) (words marks : List ℕ)
     → let args = c.args in
-    let fields = c.before.before.before.before.before.before.before.before.before.before.before.before.before in
     table (state_from fixed (control_of args.live) args.values.now args.labels.now words marks) args.w upcall
     ≡ row c.may_upcall.result
     (does
-    (open_upcall (get_or args.values.now fields.d_of-d.result 0)
+    (open_upcall (get_or args.values.now c.d_of-d.result 0)
     (record { pc = c.label_of-pc.result; timing = c.label_of-timing.result })
-    (args.live.clock + 2 + get_or args.values.now fields.a_of-a.result 0))) 2
+    (args.live.clock + 2 + get_or args.values.now c.a_of-a.result 0))) 2
 unfolding table may_upcall new_pair_allowed value_at label_at
 row_is c fixed words marks =
-    let at = c.before.before.before.before.before in
-    let fields = c.before.before.before.before.before.before.before.before.before.before.before.before.before in
     rw (
       in_upcall_lem _,
       no-upcall c,
-      ← fields.a_of-a.ensures.0,
-      ← fields.b_of-b.ensures.0,
-      ← fields.c_of-c.ensures.0,
-      ← fields.d_of-d.ensures.0,
-      ← at.new_pair_allowed.ensures,
-      at.if-new_pair_allowed.true,
+      ← c.a_of-a.ensures.0,
+      ← c.b_of-b.ensures.0,
+      ← c.c_of-c.ensures.0,
+      ← c.d_of-d.ensures.0,
+      ← c.new_pair_allowed.ensures,
+      c.if-new_pair_allowed.true,
       ← c.label_of-pc.ensures,
       ← c.label_of-timing.ensures,
       ← c.may_upcall.ensures,
@@ -61,22 +58,20 @@ row_is c fixed words marks =
 
 pub returns-then-may_upcall : goal.returns-then-may_upcall
 returns-then-may_upcall c =
-    let tried = c.before.before.before.before.before in
-    (λ fixed words marks. rw (row_is tried fixed words marks, c.if-may_upcall.true, c.wide.ensures.0), λ p. (p, no-upcall tried, omega arith))
+    (λ fixed words marks. rw (row_is (goal.at.returns-then-may_upcall c).After-may_upcall fixed words marks, c.if-may_upcall.true, c.wide.ensures.0), λ p. (p, no-upcall (goal.at.returns-then-may_upcall c).After-may_upcall, omega arith))
 
 pub returns-else-may_upcall : goal.returns-else-may_upcall
-returns-else-may_upcall c = (λ fixed words marks. rw (row_is c.before fixed words marks, c.if-may_upcall.false), λ p. p)
+returns-else-may_upcall c = (λ fixed words marks. rw (row_is (goal.at.returns-else-may_upcall c).After-may_upcall fixed words marks, c.if-may_upcall.false), λ p. p)
 
 pub returns-else-new_pair_allowed : goal.returns-else-new_pair_allowed
 unfolding table may_upcall new_pair_allowed value_at label_at
 returns-else-new_pair_allowed c =
-    let out = c.before.before.before.before in
-    let fields = out.before.before.before.before in (
+    (
       λ fixed words marks. rw (
         in_upcall_lem _,
-        sym out.is_upcall.ensures ∙ out.if-is_upcall.false,
-        ← fields.b_of-b.ensures.0,
-        ← fields.c_of-c.ensures.0,
+        sym c.is_upcall.ensures ∙ c.if-is_upcall.false,
+        ← c.b_of-b.ensures.0,
+        ← c.c_of-c.ensures.0,
         ← c.new_pair_allowed.ensures,
         c.if-new_pair_allowed.false,
       ),

@@ -24,37 +24,33 @@ label_of-requires c = label_below _ _ c.may_become.ensures c.if-may_become.true
 -- The row, where the value is a label that the rule allows: its check is what the code tests last.
 row_is : (c : After-flows_to) (fixed : Fixed) (words marks : List ℕ)
     → let args = c.args in
-    let fields = c.before.before.before.before.before.before in
     table (state_from fixed (control_of args.live) args.values.now args.labels.now words marks) args.w (set_label (rule_of args.rule))
-    ≡ row (c.flows_to.result && ltb zero_register fields.a_of-a.result)
-    (does (write (label (register fields.a_of-a.result) (get_or args.values.now fields.b_of-b.result 0)))) 2
+    ≡ row (c.flows_to.result && ltb zero_register c.a_of-a.result)
+    (does (write (label (register c.a_of-a.result) (get_or args.values.now c.b_of-b.result 0)))) 2
 unfolding table writable value_at label_at
 row_is c fixed words marks =
-    let at = c.before.before in
-    let fields = at.before.before.before.before in
     rw (
-      ← fields.a_of-a.ensures.0,
-      ← fields.b_of-b.ensures.0,
-      ← at.may_become.ensures,
-      at.if-may_become.true,
+      ← c.a_of-a.ensures.0,
+      ← c.b_of-b.ensures.0,
+      ← c.may_become.ensures,
+      c.if-may_become.true,
       ← c.flows_to.ensures,
     )
 
 pub returns-then-flows_to-a : goal.returns-then-flows_to-a
 returns-then-flows_to-a c =
-    let tried = c.before.before in
-    (λ fixed words marks. rw (row_is tried fixed words marks, c.if-flows_to-a.true, c.label_of.ensures), λ p. (tried.a_of-a.ensures.1, p))
+    (λ fixed words marks. rw (row_is (goal.at.returns-then-flows_to-a c).After-flows_to fixed words marks, c.if-flows_to-a.true, c.label_of.ensures), λ p. (c.a_of-a.ensures.1, p))
 
 pub returns-else-flows_to-a : goal.returns-else-flows_to-a
-returns-else-flows_to-a c = (λ fixed words marks. rw (row_is c.before fixed words marks, c.if-flows_to-a.false), λ p. p)
+returns-else-flows_to-a c = (λ fixed words marks. rw (row_is (goal.at.returns-else-flows_to-a c).After-flows_to fixed words marks, c.if-flows_to-a.false), λ p. p)
 
 pub returns-else-may_become : goal.returns-else-may_become
 unfolding table writable value_at label_at
 returns-else-may_become c =
-    let fields = c.before.before.before.before in (
+    (
       λ fixed words marks. rw (
-        ← fields.a_of-a.ensures.0,
-        ← fields.b_of-b.ensures.0,
+        ← c.a_of-a.ensures.0,
+        ← c.b_of-b.ensures.0,
         ← c.may_become.ensures,
         c.if-may_become.false,
       ),

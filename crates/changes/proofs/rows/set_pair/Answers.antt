@@ -28,13 +28,11 @@ row_is : (c : After-flows_to-then-new_pair_allowed) (fixed : Fixed) (words marks
     (does (enter (record { pc = c.label_of-pc.result; timing = c.label_of-timing.result }))) 2
 unfolding table new_pair_allowed value_at label_at
 row_is c fixed words marks =
-    let at = c.before.before.before.before in
-    let fields = at.before.before.before.before.before.before in
     rw (
-      ← fields.b_of-b.ensures.0,
-      ← fields.c_of-c.ensures.0,
-      ← at.new_pair_allowed.ensures,
-      at.if-new_pair_allowed.true,
+      ← c.b_of-b.ensures.0,
+      ← c.c_of-c.ensures.0,
+      ← c.new_pair_allowed.ensures,
+      c.if-new_pair_allowed.true,
       ← c.label_of-pc.ensures,
       ← c.label_of-timing.ensures,
       ← c.flows_to.ensures,
@@ -42,18 +40,18 @@ row_is c fixed words marks =
     )
 
 pub returns-then-flows_to : goal.returns-then-flows_to
-returns-then-flows_to c = (λ fixed words marks. rw (row_is c.before fixed words marks, c.if-flows_to.true), λ p. p)
+returns-then-flows_to c = (λ fixed words marks. rw (row_is (goal.at.returns-then-flows_to c).After-flows_to-then-new_pair_allowed fixed words marks, c.if-flows_to.true), λ p. p)
 
 pub returns-else-flows_to : goal.returns-else-flows_to
-returns-else-flows_to c = (λ fixed words marks. rw (row_is c.before fixed words marks, c.if-flows_to.false), λ p. p)
+returns-else-flows_to c = (λ fixed words marks. rw (row_is (goal.at.returns-else-flows_to c).After-flows_to-then-new_pair_allowed fixed words marks, c.if-flows_to.false), λ p. p)
 
 pub returns-else-new_pair_allowed : goal.returns-else-new_pair_allowed
 unfolding table new_pair_allowed value_at label_at
 returns-else-new_pair_allowed c =
-    let fields = c.before.before.before.before.before.before in (
+    (
       λ fixed words marks. rw (
-        ← fields.b_of-b.ensures.0,
-        ← fields.c_of-c.ensures.0,
+        ← c.b_of-b.ensures.0,
+        ← c.c_of-c.ensures.0,
         ← c.new_pair_allowed.ensures,
         c.if-new_pair_allowed.false,
       ),
