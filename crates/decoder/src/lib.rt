@@ -1,5 +1,7 @@
 // A machine record read from a lent buffer of 64-bit words, where the crate encoder writes it. specs/Held.antt says which
 // buffers hold one.
+#![tactic(auto)]
+
 ghost use Rattle.std.specs.Prelude.{◌≡◌};
 ghost use Rattle.decoder.specs.Held.{begins};
 ghost use Rattle.decoder.specs.Reading.{read_of, read as Reading·read};

@@ -1,4 +1,6 @@
 // A machine record written into a lent buffer of 64-bit words, one number a word. specs/Places.antt says where.
+#![tactic(auto)]
+
 ghost use Rattle.std.specs.Prelude.{◌≡◌};
 ghost use Rattle.machine_record.specs.Struct.{record_of};
 ghost use Rattle.encoder.specs.Writing.{written_of, write as Writing·write};

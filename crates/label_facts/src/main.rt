@@ -1,84 +1,87 @@
 // The label rules at work without the machine: document 01's firings about labels alone, a line each, computed by the
 // compiled code.
+#![tactic(auto)]
+
 use labels::{Bits, Label};
+use std::io;
 
-fn say(text: &[u8]) {
-    io::write_all(1, text);
+fn say(rt: &impl Print, text: &str) -> io::Result<()> {
+    rt.print(text)
 }
 
-fn number(n: Bits) {
-    io::print_decimal(1, n as u64);
+fn number(rt: &impl Print, n: Bits) -> io::Result<()> {
+    rt.print(n)
 }
 
-fn answer(holds: bool) {
+fn answer(rt: &impl Print, holds: bool) -> io::Result<()> {
     if holds {
-        say(b": yes\n");
+        say(rt, ": yes\n")
     } else {
-        say(b": no\n");
+        say(rt, ": no\n")
     }
 }
 
-fn flow(from: Bits, to: Bits) {
-    number(from);
-    say(b" flows to ");
-    number(to);
-    answer(Label(from).flows_to(Label(to)));
+fn flow(rt: &impl Print, from: Bits, to: Bits) -> io::Result<()> {
+    number(rt, from)?;
+    say(rt, " flows to ")?;
+    number(rt, to)?;
+    answer(rt, Label(from).flows_to(Label(to)))
 }
 
 // What two labels make together, under its name.
-fn together(name: &[u8], a: Bits, b: Bits, made: Label) {
-    say(name);
-    number(a);
-    say(b" and ");
-    number(b);
-    say(b": ");
-    number(made.0);
-    say(b"\n");
+fn together(rt: &impl Print, name: &str, a: Bits, b: Bits, made: Label) -> io::Result<()> {
+    say(rt, name)?;
+    number(rt, a)?;
+    say(rt, " and ")?;
+    number(rt, b)?;
+    say(rt, ": ")?;
+    number(rt, made.0)?;
+    say(rt, "\n")
 }
 
-fn join(a: Bits, b: Bits) {
-    together(b"join of ", a, b, Label(a).join(Label(b)));
+fn join(rt: &impl Print, a: Bits, b: Bits) -> io::Result<()> {
+    together(rt, "join of ", a, b, Label(a).join(Label(b)))
 }
 
-fn meet(a: Bits, b: Bits) {
-    together(b"meet of ", a, b, Label(a).meet(Label(b)));
+fn meet(rt: &impl Print, a: Bits, b: Bits) -> io::Result<()> {
+    together(rt, "meet of ", a, b, Label(a).meet(Label(b)))
 }
 
-fn soundness(label: Bits) {
-    number(label);
-    say(b" is uncompromised");
-    answer(Label(label).is_uncompromised());
+fn soundness(rt: &impl Print, label: Bits) -> io::Result<()> {
+    number(rt, label)?;
+    say(rt, " is uncompromised")?;
+    answer(rt, Label(label).is_uncompromised())
 }
 
 // A change of label, before its answer.
-fn change(verb: &[u8], from: Bits, to: Bits, under: Bits) {
-    say(verb);
-    number(from);
-    say(b" to ");
-    number(to);
-    say(b" under ");
-    number(under);
+fn change(rt: &impl Print, verb: &str, from: Bits, to: Bits, under: Bits) -> io::Result<()> {
+    say(rt, verb)?;
+    number(rt, from)?;
+    say(rt, " to ")?;
+    number(rt, to)?;
+    say(rt, " under ")?;
+    number(rt, under)
 }
 
-fn raise(from: Bits, to: Bits, under: Bits) {
-    change(b"raise ", from, to, under);
-    answer(Label(from).may_raise(Label(to), Label(under)));
+fn raise(rt: &impl Print, from: Bits, to: Bits, under: Bits) -> io::Result<()> {
+    change(rt, "raise ", from, to, under)?;
+    answer(rt, Label(from).may_raise(Label(to), Label(under)))
 }
 
-fn relabel(from: Bits, to: Bits, under: Bits) {
-    change(b"relabel ", from, to, under);
-    answer(Label(from).may_relabel(Label(to), Label(under)));
+fn relabel(rt: &impl Print, from: Bits, to: Bits, under: Bits) -> io::Result<()> {
+    change(rt, "relabel ", from, to, under)?;
+    answer(rt, Label(from).may_relabel(Label(to), Label(under)))
 }
 
-fn main() {
-    flow(255, 15);
-    flow(255, 0);
-    join(255, 0);
-    meet(255, 0);
-    soundness(18);
-    soundness(51);
-    raise(255, 15, 255);
-    raise(240, 15, 240);
-    relabel(255, 240, 240);
-    relabel(15, 0, 0);
+fn main(rt: HostRuntime) -> io::Result<()> {
+    flow(&rt, 255, 15)?;
+    flow(&rt, 255, 0)?;
+    join(&rt, 255, 0)?;
+    meet(&rt, 255, 0)?;
+    soundness(&rt, 18)?;
+    soundness(&rt, 51)?;
+    raise(&rt, 255, 15, 255)?;
+    raise(&rt, 240, 15, 240)?;
+    relabel(&rt, 255, 240, 240)?;
+    relabel(&rt, 15, 0, 0)
 }
