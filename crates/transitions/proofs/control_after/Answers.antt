@@ -18,4 +18,4 @@ returns-in-Close c = rw (c.in-Close.is, c.restored.ensures, c.closing_tick.ensur
 
 pub returns-in-Carry : goal.returns-in-Carry
 unfolding control_after
-returns-in-Carry c = rw (c.in-Carry.is, c.changed.ensures, c.wrapping_add_u32.ensures)
+returns-in-Carry c = rw (c.in-Carry.is, c.changed.ensures, c.wrapping_add_u32.ensures.value)

@@ -6,4 +6,4 @@ use Rattle.turns.proofs.next.Goals as goal
 
 pub returns : goal.returns
 unfolding next
-returns c = c.wrapping_add_u32.ensures
+returns c = c.wrapping_add_u32.ensures.value
