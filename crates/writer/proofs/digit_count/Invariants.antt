@@ -1,8 +1,7 @@
 -- `writer::digit_count` meets its contract: the digits are counted while the number reaches the next power of ten.
 -- Assumes nothing.
 use Prim.Native.Nat.{◌-◌}
-use native.Mathlib.Omega.{arith}
-use Rattle.texts.proofs.Decimal.{Counted, count_first, count_end, count_last, count_room, count_more}
+use Rattle.texts.proofs.Decimal.{Counted}
 use Rattle.writer.proofs.digit_count.Given as goal
 
 abbrev pub invariant-loop-bound : goal.invariant-loop-bound

@@ -1,12 +1,11 @@
 -- `writer::fields_length` meets its contract. The sum is the length of the fields passed.
 -- Assumes nothing.
-use Prim.Native.Nat.{ℕ, ◌-◌, ◌≤◌}
+use Prim.Native.Nat.{ℕ}
 use mathlib.Core.List.{List}
-use mathlib.Core.Path.{◌≡◌, refl, ap, ◌∙◌}
+use mathlib.Core.Path.{refl, ap, ◌∙◌}
 use native.Mathlib.Omega.{arith}
-use lib.ListN.{length, take, get_or}
+use lib.ListN.{length, get_or}
 use lib.Seq.{take_all}
-use borrow.Author.Rules.{rules}
 use Rattle.model.specs.Listing.{fields}
 use Rattle.texts.proofs.Decimal.{most_digits_lem}
 use Rattle.texts.proofs.Fields.{length_more, fields_part, fields_most}

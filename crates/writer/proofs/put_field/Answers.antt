@@ -2,7 +2,6 @@
 -- Assumes nothing.
 use native.Mathlib.Omega.{arith}
 use lib.ListN.{length-set}
-use borrow.Author.Rules.{rules}
 use Rattle.writer.proofs.Over.{wrote_byte, wrote_room, wrote_then, wrote_length}
 use Rattle.writer.proofs.put_field.Goals as goal
 

@@ -1,14 +1,9 @@
 -- `writer::put_fields` meets its contract. The fields passed are written.
 -- Assumes nothing.
 use Prim.Native.Nat.{◌-◌, ◌≤◌}
-use native.Mathlib.Omega.{arith}
-use lib.Seq.{take_all}
 use lib.ListN.{length, take}
-use borrow.Author.Rules.{rules}
 use Rattle.model.specs.Listing.{fields}
 use Rattle.writer.specs.Inner.Wrote.{Wrote}
-use Rattle.writer.proofs.Over.{wrote_none, wrote_room, wrote_then, wrote_length}
-use Rattle.texts.proofs.Fields.{field_room, fields_more}
 use Rattle.writer.proofs.put_fields.Given as goal
 
 abbrev pub invariant-loop-i : goal.invariant-loop-i

@@ -2,9 +2,8 @@
 -- Assumes nothing.
 use native.Mathlib.Omega.{arith}
 use lib.ListN.{length-set}
-use borrow.Author.Rules.{rules}
 use Rattle.texts.proofs.Decimal.{least_digits}
-use Rattle.writer.proofs.Spelled.{Spelled, spell_none, spell_more, spell_last}
+use Rattle.writer.proofs.Spelled.{spell_none, spell_more, spell_last}
 use Rattle.writer.proofs.put_number.Goals as goal
 
 pub loop-rest-init : goal.loop-rest-init

@@ -1,10 +1,6 @@
 -- `writer::put_number` meets its contract. The digits of what is left and those that stand make the number.
 -- Assumes nothing.
-use native.Mathlib.Omega.{arith}
-use lib.ListN.{length-set}
-use borrow.Author.Rules.{rules}
-use Rattle.texts.proofs.Decimal.{least_digits}
-use Rattle.writer.proofs.Spelled.{Spelled, spell_none, spell_more, spell_last}
+use Rattle.writer.proofs.Spelled.{Spelled}
 use Rattle.writer.proofs.put_number.Given as goal
 
 abbrev pub invariant-loop-rest : goal.invariant-loop-rest

@@ -5,7 +5,6 @@ use Prim.Native.Nat.{ℕ, ◌+◌}
 use mathlib.Core.Path.{ap}
 use native.Mathlib.Omega.{arith}
 use lib.ListN.{length-set}
-use borrow.Author.Rules.{rules}
 use Rattle.texts.proofs.Fields.{fields_most}
 use Rattle.writer.proofs.Over.{wrote_byte, wrote_room}
 use Rattle.writer.proofs.Answer.{LineCount, LineWritten, headed, not_a_line, no_room, line_written}
@@ -53,13 +52,13 @@ done c =
     line_written _ _ _ (counted (goal.at.After-put_fields-last c).After-fields_length-count) tested.if-out-count.false c.put_fields-last.ensures
 
 pub overflow_add-last : goal.overflow_add-last
-overflow_add-last c = let d = done c in omega (arith, d.room, d.same 0)
+overflow_add-last c = let d = done (goal.at.overflow_add-last c).After-put_fields-last in omega (arith, d.room, d.same 0)
 
 pub bounds-out-last : goal.bounds-out-last
-bounds-out-last c = (done c).room
+bounds-out-last c = (done (goal.at.bounds-out-last c).After-put_fields-last).room
 
 pub shape_of-out : goal.shape_of-out
-shape_of-out c = (done c).same _
+shape_of-out c = (done (goal.at.shape_of-out c).After-put_fields-last).same _
 
 pub returns : goal.returns
-returns c = (done c).line
+returns c = (done (goal.at.returns c).After-put_fields-last).line
