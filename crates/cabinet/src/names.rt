@@ -1,14 +1,14 @@
-// File names on standard input, one a line.
+// File names that are read, one a line.
 ghost use Rattle.std.specs.Prelude.{◌≤◌, ◌≡◌, length, take};
 ghost use Rattle.cabinet.specs.Names.{line_feed_in};
 
-use libc::STDIN_FILENO;
+use std::io::Read;
+
+// No path has so many bytes.
+pub const MOST_NAME: usize = 4096;
 
 // The byte that ends a line.
 const LINE_FEED: u8 = b'\n';
-
-// More bytes than will ever come: the count shows that the loop ends.
-const MOST_BYTES: u64 = 0xFFFF_FFFF_FFFF_FFFF;
 
 // How a line ended.
 #[derive(Clone, Copy)]
@@ -30,7 +30,7 @@ pub struct Line {
     pub ending: Ending,
 }
 
-// The next byte of standard input.
+// The next byte of the input.
 #[derive(Clone, Copy)]
 enum Byte {
     Some(u8),
@@ -39,16 +39,13 @@ enum Byte {
 }
 
 // Reads one byte: more would be waited for while a name is already whole.
-fn read_byte() -> Byte {
+fn read_byte<R: Read>(input: &mut R) -> Byte {
     let mut space = [0u8; 1];
-    let got = libc::read(STDIN_FILENO, &mut space);
-    if got < 0 {
-        return Byte::Failed;
+    match input.read(&mut space) {
+        Err(_) => Byte::Failed,
+        Ok(0) => Byte::End,
+        Ok(_) => Byte::Some(space[0]),
     }
-    if got == 0 {
-        return Byte::End;
-    }
-    Byte::Some(space[0])
 }
 
 // The line of a name that took so many bytes of a buffer. A buffer that is full has no room for the byte that ends a path.
@@ -76,14 +73,13 @@ fn keep(byte: u8, count: usize, buf: &mut [u8]) -> usize {
     count
 }
 
-// Reads a line of standard input into the buffer. The last line may end with the input.
-pub fn read_name(buf: &mut [u8]) -> Line
+// Reads a line of the input into the buffer. The last line may end with the input.
+pub fn read_name<R: Read>(input: &mut R, buf: &mut [u8]) -> Line
     ensures { (result.count ≤ length buf.new) × (result.count ≡ length (take result.count buf.new)) }
 {
     let mut count = 0;
-    let mut left = MOST_BYTES;
-    while 0 < left {
-        match read_byte() {
+    for _ in 0..u64::MAX {
+        match read_byte(input) {
             Byte::Some(byte) => {
                 if byte == LINE_FEED {
                     return line_of(count, buf);
@@ -100,7 +96,6 @@ pub fn read_name(buf: &mut [u8]) -> Line
                 };
             }
         }
-        left -= 1;
     }
     Line {
         count: 0,

@@ -1,6 +1,8 @@
 // Reading a text of Intel HEX: the byte that two digits write, and the record that a text begins with. The reader is lent
 // the text from the record's own start on, and answers how many bytes of it the record takes. The bytes that a record
 // gives are left where they stand: whoever wants one reads its two digits.
+#![tactic(auto)]
+
 ghost use Rattle.std.specs.Prelude.{◌≡◌, ◌+◌, ◌*◌, ◌≤◌, ◌<◌, length, drop, get_or};
 ghost use Rattle.model.specs.Numbers.{record_frame};
 ghost use Rattle.model.specs.Hex.{digit_of, byte_of, bytes, is_whole, record_of, line_end, read_record};

@@ -2,6 +2,8 @@
 // a buffer of 64-bit words, as the crates encoder and decoder have it. Nothing is kept between calls. The module
 // load_hex_call has the load from HEX, print_calls listings, view_call views, certify_call certificates, label_calls the
 // label rules.
+#![tactic(auto)]
+
 ghost use Rattle.std.specs.Prelude.{◌≡◌};
 ghost use Rattle.model.specs.Record.{lent};
 ghost use Rattle.record_calls.specs.RecordCalls.{left};

@@ -1,5 +1,7 @@
 // What load answers programs in other languages, of what was loaded: the record goes to its buffer unless the load was
 // refused, and number and line to the caller. The module from_hex has the load from HEX.
+#![tactic(auto)]
+
 mod from_hex;
 
 ghost use Rattle.std.specs.Prelude.{ℕ, ◌≡◌, List};

@@ -1,5 +1,7 @@
 // Reading a text: the number, the field, some fields in a row and the line that it begins with. Each reader is lent the text
 // from its own start on, and answers how many bytes it has read.
+#![tactic(auto)]
+
 ghost use Rattle.std.specs.Prelude.{◌≡◌, ◌&&◌, ◌+◌, ◌-◌, ◌≤◌, ltb, length, get_or};
 ghost use Rattle.model.specs.Numbers.{digit_zero, most_digits};
 ghost use Rattle.model.specs.Text.{is_digit, number, field, read_fields, field_count, line_of, closed, read_line};

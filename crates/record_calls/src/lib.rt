@@ -1,5 +1,7 @@
 // What the calls for programs in other languages share: whether a lent buffer is long enough, a record in a buffer, and one
 // step, a run or a run to a tick of it. Nothing is kept between calls.
+#![tactic(auto)]
+
 ghost use Rattle.std.specs.Prelude.{◌≡◌};
 ghost use Rattle.model.specs.Record.{lent};
 ghost use Rattle.model.specs.Answer.{answer_of};

@@ -1,4 +1,6 @@
 // The verdict on a line: the outcome of its tests, tried in the paper's order.
+#![tactic(auto)]
+
 ghost use Rattle.std.specs.Prelude.{◌≡◌, length};
 ghost use Rattle.causes.specs.Tests.{first_refusal};
 ghost use Rattle.model.specs.Record.{Bank};

@@ -1,5 +1,7 @@
 // Writing a line of the text format: its letter, its fields, each a comma and a number in base ten, and an LF. A line is
 // written into the output's rest, which the caller lends from where the line before it ended.
+#![tactic(auto)]
+
 ghost use Rattle.std.specs.Prelude.{◌≡◌, ◌∷◌, ◌≤◌, ◌<◌, length};
 ghost use Rattle.model.specs.Numbers.{comma, most_fields};
 ghost use Rattle.model.specs.Listing.{decimal, fields};
