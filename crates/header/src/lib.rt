@@ -1,5 +1,7 @@
 // What every load begins with: the length of a text and its first line are judged, and give the record of an M line, or a
 // refusal.
+#![tactic(auto)]
+
 ghost use Rattle.std.specs.Prelude.{◌≡◌, true, List, ℕ, length};
 ghost use Rattle.model.specs.Record.{lent};
 ghost use Rattle.causes.specs.declared.Outcome.TheVariants.{Refused};
