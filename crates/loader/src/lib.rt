@@ -1,5 +1,7 @@
 // Loading: a text becomes the machine record and the memory that it describes, or is refused. Its lines are read once:
 // the words of accepted lines are kept aside, and copied to the lent memory only when the last line is accepted.
+#![tactic(auto)]
+
 ghost use Rattle.std.specs.Prelude.{◌≡◌, true, ◌++◌, ◌≤◌, length, take, drop};
 ghost use Rattle.model.specs.Numbers.{most_words, register_count, longest_text};
 ghost use Rattle.model.specs.Record.{lent};

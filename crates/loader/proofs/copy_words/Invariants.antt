@@ -1,0 +1,11 @@
+-- `loader::copy_words` meets its contract: after i turns the first i words are copied.
+-- Assumes nothing.
+use Prim.Native.Nat.{◌-◌}
+use Rattle.loader.proofs.Copying.{Copied}
+use Rattle.loader.proofs.copy_words.Given as goal
+
+abbrev pub invariant-loop-i : goal.invariant-loop-i
+invariant-loop-i l = Copied l.kept l.initial.words l.words l.size l.i
+
+abbrev pub decreases-loop-i : goal.decreases-loop-i
+decreases-loop-i l = l.size - l.i
