@@ -2,6 +2,8 @@
 // that they describe, or are refused. The records are read once: the bytes that they give are kept aside, and made into
 // words of the lent memory only when the last record is accepted. The module `records` judges them, `words` makes the
 // words.
+#![tactic(auto)]
+
 ghost use Rattle.std.specs.Prelude.{◌≡◌, List, ℕ, ◌*◌, ◌≤◌, length};
 ghost use Rattle.model.specs.Numbers.{most_words, word_bytes};
 ghost use Rattle.model.specs.Record.{lent};
