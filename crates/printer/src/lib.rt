@@ -1,6 +1,8 @@
 // Printing a machine: its listing for a viewer's label, written into lent output line by line, each into the part that
 // begins where the line before it ended. The length is known before the first byte is written, so a refusal leaves the
 // output as it was.
+#![tactic(auto)]
+
 ghost use Rattle.std.specs.Prelude.{◌≡◌, ◌&&◌, [], ◌∷◌, ◌+◌, ◌*◌, ◌≤◌, length};
 ghost use Rattle.model.specs.Record.{lent};
 ghost use Rattle.model.specs.Numbers.{most_fields};
