@@ -1,0 +1,48 @@
+-- `jennydusk::print_calls::jennydusk_print_for` meets its contract. The first test is the definition's; then the answer of
+-- print is handed on, and a listing is short enough for its length to fit the answer.
+-- Assumes nothing.
+use mathlib.Core.Path.{refl}
+use borrow.Author.Rules.{rules}
+use native.Mathlib.Omega.{arith}
+use Rattle.model.specs.Record.{lent}
+use Rattle.machine_record.specs.Struct.{record_of}
+use Rattle.decoder.specs.Held.{machine_in}
+use Rattle.decoder.specs.Reading as reading
+use Rattle.encoder.specs.Places.{span}
+use Rattle.record_calls.proofs.Laws.{when_short, when_long}
+use Rattle.jennydusk.specs.Calls.{unwritten, print_for_call}
+use Rattle.jennydusk.proofs.Laws.{small_length, not_printed_lem, was_printed}
+use Rattle.jennydusk.proofs.print_calls.jennydusk_print_for.Goals as goal
+
+pub returns-then-is_short : goal.returns-then-is_short
+unfolding print_for_call
+returns-then-is_short c =
+    when_short (unwritten c.args.out.now) span c.args.«record».now c.is_short.ensures _ c.if-is_short.true
+
+pub returns-in-Nothing : goal.returns-in-Nothing
+unfolding print_for_call reading.read
+returns-in-Nothing c =
+    let buffer = c.args.«record».now in
+    let output = c.args.out.now in
+    when_long (unwritten output) span buffer c.is_short.ensures c.if-is_short.false
+    (rw c.no_record.ensures
+    (not_printed_lem c.args.label (lent c.args.words.now c.args.labels.now) output c.read-reading.result (machine_in buffer)
+    c.read-reading.ensures c.in-Nothing.is))
+
+pub overflow_cast-printed : goal.overflow_cast-printed
+overflow_cast-printed c =
+    omega (
+      arith,
+      small_length c.args.label (record_of c.read-reading.result.machine) (lent c.args.words.now c.args.labels.now) c.args.out.now
+          c.print_for-printed.result _ c.print_for-printed.ensures,
+    )
+
+pub returns : goal.returns
+unfolding print_for_call reading.read
+returns c =
+    let buffer = c.args.«record».now in
+    let output = c.args.out.now in
+    when_long (unwritten output) span buffer c.is_short.ensures c.if-is_short.false
+    (was_printed c.args.label (lent c.args.words.now c.args.labels.now) output c.read-reading.result (machine_in buffer)
+    c.print_for-printed.result c.read-reading.ensures c.in_default.is c.print_for-printed.ensures
+    c.number.ensures refl c.counted.ensures)
