@@ -1,6 +1,5 @@
 -- `record_calls::advanced` meets its contract. The first test is the definition's; then the answer of step or run is handed on.
 -- Assumes nothing.
-use borrow.Author.Rules.{rules}
 use Rattle.model.specs.Record.{lent}
 use Rattle.model.specs.Answer.{answer_of}
 use Rattle.decoder.specs.Held.{machine_in}

@@ -1,7 +1,6 @@
 -- `record_calls::keep` meets its contract. Only where the call was carried out is the record written.
 -- Assumes nothing.
 use mathlib.Core.Path.{ap}
-use borrow.Author.Rules.{rules}
 use Rattle.encoder.specs.Writing.{Written}
 use Rattle.record_calls.proofs.keep.Goals as goal
 
