@@ -1,0 +1,7 @@
+-- `certify::release::releases` meets its contract.
+-- Assumes nothing.
+use borrow.Author.Rules.{rules}
+use Rattle.certify.proofs.release.releases.Goals as goal
+
+pub returns : goal.returns
+returns c = rw (c.in-Word.is, ← c.a_of-a.ensures.0, ← c.b_of-b.ensures.0) c.tries_release.ensures
