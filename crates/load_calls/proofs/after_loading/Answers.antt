@@ -1,6 +1,5 @@
 -- `load_calls::after_loading` meets its contract.
 -- Assumes nothing.
-use borrow.Author.Rules.{rules}
 use Rattle.load_calls.proofs.after_loading.Goals as goal
 
 pub returns : goal.returns

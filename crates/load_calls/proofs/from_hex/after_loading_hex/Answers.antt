@@ -1,6 +1,5 @@
 -- `load_calls::from_hex::after_loading_hex` meets its contract.
 -- Assumes nothing.
-use borrow.Author.Rules.{rules}
 use Rattle.load_calls.proofs.from_hex.after_loading_hex.Goals as goal
 
 pub returns : goal.returns
