@@ -154,8 +154,8 @@ pub fn certify(label: Bits, text: &[u8], words: &mut [u32], labels: &mut [Bits])
 // The same in a memory of its own, all 0, with the line written that the program `certifying` prints for a text. Gives
 // how many bytes it has.
 pub fn certify_alone(label: Bits, text: &[u8], out: &mut [u8; OUTPUT]) -> usize
-    ensures out_after { record { bytes = result; output = out.new } ≡ certify_alone label text.now out.old }
-    ensures upper_bound { (result ≤ length out.new) × (result ≡ length (take result out.new)) }
+    ensures reply { record { bytes = result; output = out.new } ≡ certify_alone label text.now out.old }
+    ensures counted { (result ≤ length out.new) × (result ≡ length (take result out.new)) }
 {
     let mut words = [0u32; MOST_WORDS];
     let mut labels: [Bits; MOST_WORDS] = [0; MOST_WORDS];

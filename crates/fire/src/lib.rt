@@ -74,16 +74,16 @@ pub fn fire_whole(
     labels: &mut [Bits; MOST_WORDS],
     out: &mut [u8; OUTPUT],
 ) -> usize
-    ensures labels_after { fired result out.new words.new labels.new ≡ fire_whole text.now (lent words.old labels.old) out.old }
-    ensures upper_bound { (result ≤ length out.new) × (result ≡ length (take result out.new)) }
+    ensures reply { fired result out.new words.new labels.new ≡ fire_whole text.now (lent words.old labels.old) out.old }
+    ensures counted { (result ≤ length out.new) × (result ≡ length (take result out.new)) }
 {
     fire(text, words, labels, out)
 }
 
 // The same in a memory of its own, all 0: what the program `firing` prints for a text.
 pub fn fire_alone(text: &[u8], out: &mut [u8; OUTPUT]) -> usize
-    ensures out_after { replied result out.new ≡ fire_alone text.now out.old }
-    ensures upper_bound { (result ≤ length out.new) × (result ≡ length (take result out.new)) }
+    ensures reply { replied result out.new ≡ fire_alone text.now out.old }
+    ensures counted { (result ≤ length out.new) × (result ≡ length (take result out.new)) }
 {
     let mut words = [0u32; MOST_WORDS];
     let mut labels: [Bits; MOST_WORDS] = [0; MOST_WORDS];

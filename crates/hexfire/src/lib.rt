@@ -30,8 +30,8 @@ pub fn fire_hex(
 // The same in a memory of its own, all 0, and into an output that has room for every reply: what the program `hexfiring`
 // prints for an image.
 pub fn fire_hex_alone(text: &[u8], hex: &[u8], label: Bits, out: &mut [u8; OUTPUT]) -> usize
-    ensures out_after { replied result out.new ≡ fire_hex_alone text.now hex.now label out.old }
-    ensures upper_bound { (result ≤ length out.new) × (result ≡ length (take result out.new)) }
+    ensures reply { replied result out.new ≡ fire_hex_alone text.now hex.now label out.old }
+    ensures counted { (result ≤ length out.new) × (result ≡ length (take result out.new)) }
 {
     let mut words = [0u32; MOST_WORDS];
     let mut labels: [Bits; MOST_WORDS] = [0; MOST_WORDS];

@@ -78,8 +78,8 @@ pub fn view(
 // The same in a memory of its own, all 0, with the line written of a view that is refused: what the program `viewing`
 // prints for a text. Gives how many bytes it has.
 pub fn view_alone(label: Bits, tick: u64, text: &[u8], out: &mut [u8; OUTPUT]) -> usize
-    ensures out_after { record { bytes = result; output = out.new } ≡ view_alone label tick text.now out.old }
-    ensures upper_bound { (result ≤ length out.new) × (result ≡ length (take result out.new)) }
+    ensures reply { record { bytes = result; output = out.new } ≡ view_alone label tick text.now out.old }
+    ensures counted { (result ≤ length out.new) × (result ≡ length (take result out.new)) }
 {
     let mut words = [0u32; MOST_WORDS];
     let mut labels: [Bits; MOST_WORDS] = [0; MOST_WORDS];

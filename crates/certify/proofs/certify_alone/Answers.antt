@@ -16,7 +16,7 @@ returns-in_default c =
     alone_wrote asked.label asked.text.now asked.out.now (search rules) _ c.certify-certified.ensures 88 _
     (refusal_line _ (ap is_done c.in_default.is) c.number-number.ensures refl) (omega arith)
     c.write_line.ensures in
-    record { out_after = whole; upper_bound = alone_counts asked.label asked.text.now asked.out.now _ whole }
+    record { reply = whole; counted = alone_counts asked.label asked.text.now asked.out.now _ whole }
 
 pub returns : goal.returns
 unfolding program_memory
@@ -25,4 +25,4 @@ returns c =
     let whole =
     alone_wrote asked.label asked.text.now asked.out.now (search rules) _ c.certify-certified.ensures 86 _
     (certificate_line _ c.in-Done.is) (omega arith) c.write_line-2.ensures in
-    record { out_after = whole; upper_bound = alone_counts asked.label asked.text.now asked.out.now _ whole }
+    record { reply = whole; counted = alone_counts asked.label asked.text.now asked.out.now _ whole }

@@ -1,0 +1,17 @@
+-- `fire::fire` meets its contract: what its load has given is fired.
+-- Assumes nothing.
+use borrow.Author.Rules.{rules}
+use Rattle.model.specs.Record.{lent}
+use Rattle.model.specs.Load.{load}
+use Rattle.model.specs.Program.{fire}
+use Rattle.model.proofs.Program.{load_ready}
+use Rattle.fire.proofs.Laws.{load_fired}
+use Rattle.fire.proofs.fire.Goals as goal
+
+pub returns : goal.returns
+unfolding fire
+returns c =
+    let given = c.args in
+    let text = given.text.now in
+    let memory = lent given.words.now given.labels.now in
+    load_fired (load text memory) given.out.now _ (load_ready text memory) c.load-loaded.ensures c.fire_loaded.ensures
