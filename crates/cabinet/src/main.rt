@@ -12,10 +12,9 @@ use labels::Bits;
 use names::{Ending, MOST_NAME, has_line_feed, read_name};
 use std::env::FillError;
 use std::fs::File;
-use std::io;
 use std::io::Error;
 use std::rt::{Env, Stdin};
-use std::str;
+use std::{io, str};
 
 // What the memory holds before the first file: numbers that no file has put there.
 const STRAY_WORD: u32 = 0xA5A5_A5A5;
@@ -134,11 +133,7 @@ enum Turn {
 
 // The turn after a file: there is a next one as long as standard output takes what is written.
 fn turn_after(written: bool) -> Turn {
-    if written {
-        Turn::Next
-    } else {
-        Turn::Unwritten
-    }
+    if written { Turn::Next } else { Turn::Unwritten }
 }
 
 // Fires the file that an argument names. One that is too long, or that would not stand on one line, names none.

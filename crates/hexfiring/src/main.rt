@@ -109,7 +109,10 @@ fn read_label(rt: &HostRuntime) -> Named {
 fn main(rt: HostRuntime) {
     let named = read_label(&rt);
     let Named::Label(label) = named else {
-        complain(&rt, "hexfiring: the arguments are a label, 0 to 255, and the file of an M text");
+        complain(
+            &rt,
+            "hexfiring: the arguments are a label, 0 to 255, and the file of an M text",
+        );
         return;
     };
     fire_argument(&rt, label, 2);

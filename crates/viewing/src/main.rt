@@ -49,7 +49,10 @@ fn reply(rt: &HostRuntime, label: Bits, tick: u64, text: &[u8]) {
 fn main(rt: HostRuntime) {
     let asked = read_arguments(&rt);
     let Asked::View(label, tick) = asked else {
-        complain(&rt, "viewing: the arguments are a label, 0 to 255, and a tick");
+        complain(
+            &rt,
+            "viewing: the arguments are a label, 0 to 255, and a tick",
+        );
         return;
     };
     let mut space = [0u8; SPACE];
