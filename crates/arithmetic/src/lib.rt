@@ -1,4 +1,6 @@
 // What the arithmetic ops compute from two registers, and how many ticks they take.
+#![tactic(auto)]
+
 ghost use Rattle.std.specs.Prelude.{◌≡◌, ◌≤◌};
 ghost use Rattle.model.specs.Word.{compute, add, subtract, less as less_than, multiply, divide, remainder as left};
 ghost use Rattle.model.specs.Ops.{multiply_count, multiply_ticks, arithmetic_ticks};

@@ -1,5 +1,7 @@
 // The refusals: a case for each row of the table of document 01, "Text", and for each that a request added; and how a call
 // ended.
+#![tactic(auto)]
+
 ghost use Rattle.std.specs.Prelude.{◌≡◌};
 ghost use Rattle.causes.specs.Causes.{number_of, cause_number};
 

@@ -1,5 +1,7 @@
 // Certifying a text: it is loaded and run to its end, and each step is looked at before it is taken. What is promised of
 // the certificate, and why one run speaks for all, stands in the model.
+#![tactic(auto)]
+
 ghost use Rattle.std.specs.Prelude.{◌≤◌, ◌≡◌, length, take};
 ghost use Rattle.model.specs.Numbers.{most_ticks};
 ghost use Rattle.model.specs.Record.{state_of, lent};

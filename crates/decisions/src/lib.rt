@@ -1,5 +1,7 @@
 // The first stage of a step where the hot loop stopped: what is to be done. That is for ops 15 to 22, for failed
 // fetches, for upcalls that close, for stalls and for spent time. Nothing here changes the machine.
+#![tactic(auto)]
+
 ghost use Rattle.std.specs.Prelude.{ℕ, ◌≡◌, List};
 ghost use Rattle.model.specs.declared.Fixed.{Fixed};
 ghost use Rattle.model.specs.Record.{state_from};

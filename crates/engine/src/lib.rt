@@ -1,6 +1,8 @@
 // The core of the machine: steps of a control over lent registers and memory, as far as is asked for. One step, the run and
 // the run to a tick share it. The ranges that the steps rest on, and that memory is lent whole, are tested first; where
 // that doesn't hold, nothing is done.
+#![tactic(auto)]
+
 mod drive;
 mod turned;
 

@@ -1,5 +1,7 @@
 // Firing a text: it is loaded into lent memory, run to its end, and its listing is written into lent output. A text that
 // is refused gets the line `X,number,line` instead. What follows a load is a function of its own, for images of every kind.
+#![tactic(auto)]
+
 ghost use Rattle.std.specs.Prelude.{◌≤◌, ◌≡◌, length, take};
 ghost use Rattle.model.specs.Record.{lent};
 ghost use Rattle.model.specs.Program.{fire, fire_whole, fire_alone};

@@ -1,5 +1,7 @@
 // Firing an image from HEX: an M text with a HEX text and a label is loaded into lent memory, run to its end, and its listing
 // is written into lent output. An image that is refused gets the line `X,number,line` instead.
+#![tactic(auto)]
+
 ghost use Rattle.std.specs.Prelude.{◌≤◌, ◌≡◌, length, take};
 ghost use Rattle.model.specs.Record.{lent};
 ghost use Rattle.model.specs.Program.{fire_hex, fire_hex_alone};

@@ -4,6 +4,8 @@
 //
 // Flow, join and meet turn the bits of the integrity first. What is then set is a restriction, in either half: a join has
 // those of both labels, a meet those that they share, and a label flows to one that has all of its own.
+#![tactic(auto)]
+
 ghost use Rattle.std.specs.Prelude.{◌≡◌, eqb};
 ghost use Rattle.principals.specs.Principals.{may_go};
 ghost use Rattle.labels.specs.Label.{restrictions, lacking, flows, join, meet, reflection, uncompromised, valid_pair, lowest, highest, may_raise, may_relabel};

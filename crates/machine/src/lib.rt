@@ -1,5 +1,7 @@
 // The machine's calls: one step, the run and the run to a tick. A record that is not well-formed, or memory that is lent too
 // short, is refused; then the record comes back and memory is left.
+#![tactic(auto)]
+
 ghost use Rattle.std.specs.Prelude.{◌≡◌, true};
 ghost use Rattle.model.specs.Record.{lent};
 ghost use Rattle.model.specs.WellFormed.{well_formed, lent_whole};

@@ -1,5 +1,6 @@
 // The parts of the machine record. The crate has no function: it holds the definitions of the machine, in specs/, and
 // the laws about them, in proofs/. The crate `machine` puts the parts together and runs them.
+#![tactic(auto)]
 
 pub mod format;
 pub mod judging;

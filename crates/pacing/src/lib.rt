@@ -1,5 +1,7 @@
 // How far the steps go that are asked for: by which tick each has to finish, and where they stop. Beside it what the
 // engine asks before its first step and around its hot loop. Nothing here asks anything of its caller.
+#![tactic(auto)]
+
 pub mod ranges;
 pub mod setting;
 

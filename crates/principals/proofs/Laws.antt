@@ -2,7 +2,7 @@
 -- reflection turns it round, what the rules for raising and relabelling allow, and what is trusted and secret.
 -- Assumes nothing.
 use Prim.Native.Nat.{ℕ, ◌+◌, ◌-◌, ◌^◌, ◌<◌}
-use mathlib.Core.Path.{◌≡◌, refl, sym, ap, ap₂, ◌∙◌}
+use mathlib.Core.Path.{◌≡◌, refl, sym, ap₂, ◌∙◌}
 use mathlib.Core.Bool.{Bool, true, false, not, ◌&&◌, and-false, and_comm, and_self, and-eq-true_iff}
 use native.Mathlib.Nat.{mod-lt, mod-eq_of_lt}
 use lib.Arith.{digits_lt}

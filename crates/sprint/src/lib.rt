@@ -1,6 +1,8 @@
 // The hot loop over the common ops: those that only write a value or go on elsewhere. The loop holds the pc and the ticks
 // that are left as locals. It does a common op where that finishes by the deadline: the limit, or the end tick of an
 // upcall that is open. At anything else it stops and says why.
+#![tactic(auto)]
+
 mod memory;
 mod ops;
 

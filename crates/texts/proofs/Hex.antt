@@ -71,7 +71,7 @@ bytes_more xs i h =
     let t : ltb (byte_of (get_or xs i 0) (get_or xs (i + 1) 0)) 256 ≡ true = lt-ltb _ _ h in
     let next : i + 2 ≡ suc (i + 1) = omega arith in
     let second : drop (suc i) xs ≡ get_or xs (i + 1) 0 ∷ drop (i + 2) xs =
-        subst (λ (k : ℕ). drop k xs ≡ get_or xs (i + 1) 0 ∷ drop (i + 2) xs) (add-one i) (rw next (drop-cons xs (i + 1) 0 w)) in
+    subst (λ (k : ℕ). drop k xs ≡ get_or xs (i + 1) 0 ∷ drop (i + 2) xs) (add-one i) (rw next (drop-cons xs (i + 1) 0 w)) in
     rw (drop-cons xs i 0 (omega arith), second, bytes, t)
 
 -- The bytes end.

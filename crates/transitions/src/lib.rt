@@ -1,4 +1,6 @@
 // The second stage of a step: a decision applied to the control, and to the registers.
+#![tactic(auto)]
+
 ghost use Rattle.std.specs.Prelude.{◌≡◌};
 ghost use Rattle.transitions.specs.Transitions.{moved, entered, opened, restored, ended, changed, closing_tick, control_after, labelled, caused, written_back};
 

@@ -1,5 +1,7 @@
 // What the hot loop's ops on registers do: those that write a register, and those that go on elsewhere. Each tells its
 // turn, and looks at no memory. Beside them, the ticks of a common op that is looked at alone.
+#![tactic(auto)]
+
 ghost use Rattle.std.specs.Prelude.{◌≡◌, true};
 ghost use Rattle.model.specs.Word.{compute};
 ghost use Rattle.arithmetic.specs.Arithmetic.{arithmetic_of};

@@ -1,5 +1,7 @@
 // Viewing a text: it is loaded into lent memory, run to a tick, and what a viewer's label then sees is listed into lent
 // output.
+#![tactic(auto)]
+
 ghost use Rattle.std.specs.Prelude.{◌≤◌, ◌≡◌, length, take};
 ghost use Rattle.model.specs.Record.{lent};
 ghost use Rattle.model.specs.View.{view, view_alone};

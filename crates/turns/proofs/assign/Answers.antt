@@ -13,9 +13,9 @@ returns-then-ticks-spot c =
     ap₂ taken (rw (in_time_lem, ← c.next.ensures) c.going.ensures)
     (rw in_time_lem
     (elim c.if-ok-a.branch [
-      then-ok-a+then-a-lt-REGISTER_COUNT w ↦ rw (w.if-ok-a.true, lt-ltb _ _ w.if-a-lt-REGISTER_COUNT.true) w.values-is
-    | then-ok-a+else-a-lt-REGISTER_COUNT w ↦ rw (w.if-ok-a.true, le-ltb _ _ w.if-a-lt-REGISTER_COUNT.false) w.values-is
-    | else-ok-a w ↦ rw w.if-ok-a.false w.values-is
+      | then-ok-a+then-a-lt-REGISTER_COUNT w ↦ rw (w.if-ok-a.true, lt-ltb _ _ w.if-a-lt-REGISTER_COUNT.true) w.values-is
+      | then-ok-a+else-a-lt-REGISTER_COUNT w ↦ rw (w.if-ok-a.true, le-ltb _ _ w.if-a-lt-REGISTER_COUNT.false) w.values-is
+      | else-ok-a w ↦ rw w.if-ok-a.false w.values-is
     ]))
 
 pub returns : goal.returns

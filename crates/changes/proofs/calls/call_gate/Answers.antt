@@ -43,16 +43,15 @@ returns-else-may_enter c = (λ words marks. rw (row_is (goal.at.returns-else-may
 
 pub returns-else-rb-fixed : goal.returns-else-rb-fixed
 unfolding table may_call_gate value_at label_at
-returns-else-rb-fixed c =
-    (
-      λ words marks. rw (
-        newest_is _,
-        sym c.is_empty.ensures ∙ c.if-is_empty.true,
-        ← c.b_of-b.ensures.0,
-        le-ltb _ _ c.if-rb-fixed.false,
-      ),
-      λ p. p,
-    )
+returns-else-rb-fixed c = (
+  λ words marks. rw (
+    newest_is _,
+    sym c.is_empty.ensures ∙ c.if-is_empty.true,
+    ← c.b_of-b.ensures.0,
+    le-ltb _ _ c.if-rb-fixed.false,
+  ),
+  λ p. p,
+)
 
 pub returns-else-is_empty : goal.returns-else-is_empty
 unfolding table may_call_gate value_at label_at

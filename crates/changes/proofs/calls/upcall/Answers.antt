@@ -65,15 +65,14 @@ returns-else-may_upcall c = (λ fixed words marks. rw (row_is (goal.at.returns-e
 
 pub returns-else-new_pair_allowed : goal.returns-else-new_pair_allowed
 unfolding table may_upcall new_pair_allowed value_at label_at
-returns-else-new_pair_allowed c =
-    (
-      λ fixed words marks. rw (
-        in_upcall_lem _,
-        sym c.is_upcall.ensures ∙ c.if-is_upcall.false,
-        ← c.b_of-b.ensures.0,
-        ← c.c_of-c.ensures.0,
-        ← c.new_pair_allowed.ensures,
-        c.if-new_pair_allowed.false,
-      ),
-      λ p. p,
-    )
+returns-else-new_pair_allowed c = (
+  λ fixed words marks. rw (
+    in_upcall_lem _,
+    sym c.is_upcall.ensures ∙ c.if-is_upcall.false,
+    ← c.b_of-b.ensures.0,
+    ← c.c_of-c.ensures.0,
+    ← c.new_pair_allowed.ensures,
+    c.if-new_pair_allowed.false,
+  ),
+  λ p. p,
+)

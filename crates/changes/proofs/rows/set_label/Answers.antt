@@ -46,13 +46,12 @@ returns-else-flows_to-a c = (λ fixed words marks. rw (row_is (goal.at.returns-e
 
 pub returns-else-may_become : goal.returns-else-may_become
 unfolding table writable value_at label_at
-returns-else-may_become c =
-    (
-      λ fixed words marks. rw (
-        ← c.a_of-a.ensures.0,
-        ← c.b_of-b.ensures.0,
-        ← c.may_become.ensures,
-        c.if-may_become.false,
-      ),
-      λ p. p,
-    )
+returns-else-may_become c = (
+  λ fixed words marks. rw (
+    ← c.a_of-a.ensures.0,
+    ← c.b_of-b.ensures.0,
+    ← c.may_become.ensures,
+    c.if-may_become.false,
+  ),
+  λ p. p,
+)

@@ -47,13 +47,12 @@ returns-else-flows_to c = (λ fixed words marks. rw (row_is (goal.at.returns-els
 
 pub returns-else-new_pair_allowed : goal.returns-else-new_pair_allowed
 unfolding table new_pair_allowed value_at label_at
-returns-else-new_pair_allowed c =
-    (
-      λ fixed words marks. rw (
-        ← c.b_of-b.ensures.0,
-        ← c.c_of-c.ensures.0,
-        ← c.new_pair_allowed.ensures,
-        c.if-new_pair_allowed.false,
-      ),
-      λ p. p,
-    )
+returns-else-new_pair_allowed c = (
+  λ fixed words marks. rw (
+    ← c.b_of-b.ensures.0,
+    ← c.c_of-c.ensures.0,
+    ← c.new_pair_allowed.ensures,
+    c.if-new_pair_allowed.false,
+  ),
+  λ p. p,
+)

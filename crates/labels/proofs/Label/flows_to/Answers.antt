@@ -2,7 +2,6 @@
 -- Assumes nothing.
 use mathlib.Core.Path.{◌∙◌, ap₂}
 use native.Mathlib.Omega.{arith}
-use borrow.Author.Rules.{rules}
 use Rattle.principals.specs.Principals.{may_go}
 use Rattle.labels.specs.Label.{principals}
 use Rattle.principals.proofs.Whole.{restricted_flows}

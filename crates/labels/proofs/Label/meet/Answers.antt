@@ -1,7 +1,6 @@
 -- `labels::Label::meet` meets its contract: the meet over whole labels.
 -- Assumes nothing.
 use native.Mathlib.Omega.{arith}
-use borrow.Author.Rules.{rules}
 use Rattle.principals.specs.Principals.{label, lowest, restrictions}
 use Rattle.labels.specs.Label.{principals}
 use Rattle.principals.proofs.Whole.{whole_meet}

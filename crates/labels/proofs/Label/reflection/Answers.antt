@@ -1,6 +1,5 @@
 -- `labels::Label::reflection` meets its contract: the code computes as the definition does.
 -- Assumes nothing.
-use borrow.Author.Rules.{rules}
 use mathlib.Core.Path.{refl}
 use Rattle.principals.specs.Principals.{label, integrity, confidentiality, reflection}
 use Rattle.labels.proofs.Label.reflection.Goals as goal
