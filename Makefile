@@ -6,11 +6,10 @@ DESTDIR =
 VERSION := $(shell cat VERSION)
 INSTALL = install
 CARGO = cargo
-RT = rt
 
-crates := crates.txt $(shell find crates -name '*.rt' -o -name '*.antt')
+crates := crates.txt $(shell find crates -name out -prune -o \( -name '*.rt' -o -name '*.antt' \) -print)
 kiln := VERSION $(shell find tools/kiln -name target -prune -o \( -name '*.rs' -o -name 'Cargo.*' \) -print)
-# Programs that rt builds, each of the crate of its name, and kiln, which cargo does.
+# Programs that tools/build has rt build, each of the crate of its name, and kiln, which cargo does.
 proved_programs := target/bin/firing target/bin/hexfiring target/bin/viewing target/bin/certifying
 kiln_program := target/bin/kiln
 archive := target/staticlib/libjennydusk.a
@@ -29,11 +28,11 @@ all: $(proved_programs) $(kiln_program) $(archive)
 
 # What is up to date already keeps its time when it is checked again, so it gets a new one.
 $(proved_programs): $(crates)
-	$(RT) check $(@F)
+	tools/build $(@F)
 	touch $@
 
 $(archive): $(crates)
-	$(RT) staticlib jennydusk
+	tools/build jennydusk
 	touch $@
 
 $(kiln_program): $(kiln) $(archive)

@@ -1,5 +1,5 @@
 //! Tells the linker where the library's archive lies: in the folder that
-//! JENNYDUSK_ARCHIVE names, or where `rt staticlib jennydusk` writes it.
+//! JENNYDUSK_ARCHIVE names, or where `tools/build jennydusk` puts it.
 
 use std::env;
 use std::path::Path;

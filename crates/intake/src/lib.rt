@@ -2,7 +2,8 @@
 // nobody takes a part for the whole.
 #![tactic(auto)]
 
-ghost use Rattle.std.specs.Prelude.{◌≤◌, ◌≡◌, cond, length, take};
+ghost use Rattle.std.specs.Prelude.{◌<◌, ◌≤◌, ◌≡◌, IsTrue, cond, length, take};
+ghost use Rattle.std.specs.Io.KnownBytes.{Consumes, IsAtEnd};
 
 use std::io::{Error, Read};
 
@@ -15,10 +16,13 @@ pub struct Input {
 }
 
 // Reads into buf until that is full or the input ends. The input may come in small pieces. Where a read fails, no byte of
-// what came before it counts. What is read lies outside of any promise.
+// what came before it counts. Which bytes the system gives lies outside of any promise; a reader that knows its bytes gave
+// those that count, and all that it had where the buffer isn't full.
 pub fn read_whole<R: Read>(input: &mut R, buf: &mut [u8]) -> Input
     ensures count_in_bounds { (result.count ≤ length buf.new) × (result.count ≡ length (take result.count buf.new)) }
     ensures count_value { result.count ≡ cond result.whole result.count 0 }
+    ensures bytes { IsTrue result.whole → Consumes (R.remaining input.old) (R.remaining input.new) (take result.count buf.new) }
+    ensures end { IsTrue result.whole → result.count < length buf.old → IsAtEnd (R.remaining input.new) }
 {
     let mut at = 0;
     while at < buf.len() {

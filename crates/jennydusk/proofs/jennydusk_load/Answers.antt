@@ -1,6 +1,5 @@
 -- `jennydusk::jennydusk_load` meets its contract. The first test is the definition's; then the answer of load is handed on.
 -- Assumes nothing.
-use borrow.Author.Rules.{rules}
 use Rattle.model.specs.Record.{lent}
 use Rattle.encoder.specs.Places.{span}
 use Rattle.record_calls.specs.RecordCalls.{untouched}

@@ -1,6 +1,5 @@
 -- `jennydusk::jennydusk_run_to` meets its contract.
 -- Assumes nothing.
-use borrow.Author.Rules.{rules}
 use Rattle.jennydusk.specs.Calls.{run_to_call}
 use Rattle.jennydusk.proofs.jennydusk_run_to.Goals as goal
 

@@ -1,6 +1,5 @@
 -- `jennydusk::jennydusk_step` meets its contract.
 -- Assumes nothing.
-use borrow.Author.Rules.{rules}
 use Rattle.jennydusk.specs.Calls.{step_call}
 use Rattle.jennydusk.proofs.jennydusk_step.Goals as goal
 

@@ -2,7 +2,6 @@
 -- certify is handed on.
 -- Assumes nothing.
 use mathlib.Core.Path.{refl}
-use borrow.Author.Rules.{rules}
 use Rattle.model.specs.Record.{lent}
 use Rattle.record_calls.specs.RecordCalls.{untouched}
 use Rattle.record_calls.proofs.Laws.{when_short, when_long, is_long}

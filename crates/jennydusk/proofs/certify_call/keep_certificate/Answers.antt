@@ -3,7 +3,6 @@
 use native.Mathlib.Omega.{arith}
 use mathlib.Core.List.{[], ◌∷◌}
 use lib.Seq.{lt-length-sets}
-use borrow.Author.Rules.{rules}
 use Rattle.certify.specs.Certified.{certificate_of}
 use Rattle.jennydusk.proofs.Laws.{words_stored}
 use Rattle.jennydusk.proofs.certify_call.keep_certificate.Goals as goal

@@ -1,7 +1,6 @@
 -- `jennydusk::load_hex_call::jennydusk_load_hex` meets its contract. The first test is the definition's; then the answer of
 -- load is handed on.
 -- Assumes nothing.
-use borrow.Author.Rules.{rules}
 use Rattle.model.specs.Record.{lent}
 use Rattle.encoder.specs.Places.{span}
 use Rattle.record_calls.proofs.Laws.{when_short, when_long}

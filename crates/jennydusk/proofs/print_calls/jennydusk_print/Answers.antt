@@ -1,6 +1,5 @@
 -- `jennydusk::print_calls::jennydusk_print` meets its contract. The label that it prints for is the highest.
 -- Assumes nothing.
-use borrow.Author.Rules.{rules}
 use Rattle.labels.proofs.Constants.{highest_number}
 use Rattle.jennydusk.specs.Calls.{print_call}
 use Rattle.jennydusk.proofs.print_calls.jennydusk_print.Goals as goal

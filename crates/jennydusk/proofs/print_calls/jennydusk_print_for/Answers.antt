@@ -2,7 +2,6 @@
 -- print is handed on, and a listing is short enough for its length to fit the answer.
 -- Assumes nothing.
 use mathlib.Core.Path.{refl}
-use borrow.Author.Rules.{rules}
 use native.Mathlib.Omega.{arith}
 use Rattle.model.specs.Record.{lent}
 use Rattle.machine_record.specs.Struct.{record_of}
