@@ -19,7 +19,7 @@ use Rattle.model.specs.Record.{Bank, State, Location, register, word, label_at, 
 use Rattle.model.specs.WellFormed.{zero_reads}
 use Rattle.model.specs.Numbers.{register_count, value_count}
 use Rattle.model.specs.Inner.Typed.{Below, BankTyped}
-use Rattle.model.specs.Ops.{Write, value, label, Change, write, goto, enter, open_upcall, open_gate, close_gate, stop}
+use Rattle.model.specs.Ops.{Write, Change, write, goto, enter, open_upcall, open_gate, close_gate, stop}
 use Rattle.model.specs.Step.{Decision, rest, spend, stall, close, carry, end_tick, finish, fetch, plan, beyond_limit, in_limit, running, decide, set_value, set_label_at, written, cause_allowed, cause_write, change_write, write_of, changed, restored, control_after, apply, step}
 use Rattle.model.proofs.Truth.{choice, clash}
 use Rattle.model.proofs.Writes.{There, Lengths, lengths, set_at, written_lengths, zero_left}

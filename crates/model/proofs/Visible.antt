@@ -4,7 +4,7 @@
 -- Assumes nothing.
 use Prim.Native.Nat.{ℕ, ◌+◌, ◌<◌, ◌/◌, ◌%◌, ◌^◌}
 use mathlib.Core.Path.{◌≡◌, refl, sym, ap, ◌∙◌, subst}
-use mathlib.Core.Logic.{◌⊎◌, inl, inr, ⊎_elim}
+use mathlib.Core.Logic.{⊎_elim}
 use mathlib.Core.Bool.{Bool, true, false, ◌&&◌, cond}
 use native.Mathlib.Nat.{mod-lt}
 use lib.Dec.{ltb, eqb, lit<}
@@ -24,9 +24,8 @@ use Rattle.model.proofs.Division.{division_ticks}
 use Rattle.model.proofs.Truth.{either, clash, and_iff, same-choice}
 use Rattle.model.proofs.Writes.{same}
 use Rattle.model.proofs.Ready.{Ready}
-use Rattle.model.proofs.Legal.{Inside, LegalWrite, keeps, sets, marks}
-use Rattle.model.proofs.WellFormed.{step_control}
-use Rattle.model.proofs.Step.{there, step_write}
+use Rattle.model.proofs.Legal.{Inside}
+use Rattle.model.proofs.Step.{there}
 use Rattle.model.proofs.Sight as sight
 use Rattle.model.proofs.Sight.{Alike, alike_sym, alike_trans, inside_exists, seen_equal, DownSet, within_down, flows_equal, flows_alike, Visible, Hidden, Fits, own_label, hidden_write, visible_write}
 
