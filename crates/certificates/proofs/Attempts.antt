@@ -15,7 +15,7 @@ use Rattle.model.specs.declared.Fixed.{Fixed}
 use Rattle.model.specs.declared.Control.{Control}
 use Rattle.model.specs.declared.Call.{Call}
 use Rattle.model.specs.declared.Call.TheVariants.{Empty, Gate, Upcall}
-use Rattle.model.specs.Record.{State, Location, register, word, label_at, is_empty, is_upcall, newest, in_upcall}
+use Rattle.model.specs.Record.{State, Location, register, label_at, is_empty, is_upcall, newest, in_upcall}
 use Rattle.model.specs.Word.{Rule, raise, relabel, Op, immediate, arithmetic, load, store, branch, jump, read_clock, set_label, set_pair, upcall, end_upcall, gate_call, gate_return, halt, a_field}
 use Rattle.model.specs.WellFormed.{no_gate}
 use Rattle.model.specs.Ops.{writable, Write, label, Change, write, Effect, does, is_label, allows, La, Lb, Rb, table}

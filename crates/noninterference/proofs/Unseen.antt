@@ -4,18 +4,15 @@
 use Prim.Native.Nat.{ℕ, ◌+◌, ◌<◌, ◌≤◌}
 use mathlib.Core.Path.{◌≡◌, refl, sym, ap, ◌∙◌}
 use mathlib.Core.Logic.{◌⊎◌, inl, inr}
-use mathlib.Core.Bool.{Bool, true, false, ◌&&◌, cond}
+use mathlib.Core.Bool.{Bool, true, false, cond}
 use native.Mathlib.Nat.{le_refl}
 use native.Mathlib.Omega.{arith}
-use lib.Dec.{leb, eqb}
-use borrow.Author.Tests.{eqb-true}
 use Rattle.principals.proofs.Laws.{not_flows}
 use Rattle.model.specs.declared.Pair.{Pair}
 use Rattle.model.specs.declared.Control.{Control}
 use Rattle.model.specs.declared.Call.{Call}
 use Rattle.model.specs.declared.Call.TheVariants.{Empty, Gate, Upcall}
 use Rattle.model.specs.Record.{State, Location, register, word, machine_of, value_at, label_at, is_empty, is_gate, is_upcall, return_of, pair_of, end_tick_of, newest, in_upcall}
-use Rattle.model.specs.WellFormed.{end_in_range}
 use Rattle.model.specs.Ops.{Write, Change}
 use Rattle.model.specs.Step.{Decision, carry, end_tick, finish, running, decide, written, write_of, with_control, restored, changed, control_after, apply, step}
 use Rattle.model.specs.Seen.{within, exists, seen_by}

@@ -9,9 +9,9 @@ use Rattle.principals.specs.Principals.{subset}
 use Rattle.labels.specs.Label.{principals, trusted, secret}
 use Rattle.principals.proofs.Laws.{raise_rises, relabel_flows_old, relabel_uncompromised, trusted_below, secret_above, secret_trusted}
 use Rattle.model.specs.declared.Control.{Control}
-use Rattle.model.specs.Record.{State, Location, word, value_at, label_at}
+use Rattle.model.specs.Record.{State, Location, value_at, label_at}
 use Rattle.model.specs.Word.{Rule, raise, relabel, Op}
-use Rattle.model.specs.Ops.{Write, value, label, Row, allows, table}
+use Rattle.model.specs.Ops.{Write, label, Row, allows, table}
 use Rattle.model.specs.Step.{fetched, fetch, Decision, attempt, in_time, plan, beyond_limit, in_limit, running, decide, written, write_of, with_control, step}
 use Rattle.model.specs.Seen.{exists}
 use Rattle.releases.specs.Release.{Runs, SamePoint, Releases, SameRelease, Unsteered}

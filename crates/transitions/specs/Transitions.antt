@@ -1,6 +1,6 @@
 -- The second stage of a step as the code promises it: the control and the registers after a decision.
 -- Assumes nothing.
-use Rattle.std.specs.Prelude.{ℕ, ◌+◌, ◌%◌, ◌^◌, cond, List, set, nat_lt, slice_index, slice_set}
+use Rattle.std.specs.Prelude.{ℕ, ◌+◌, ◌%◌, ◌^◌, cond, List, nat_lt, slice_index, slice_set}
 use Rattle.labels.specs.Label.{flows}
 use Rattle.model.specs.Numbers.{register_count, halted, clock_spent, stalled}
 use Rattle.model.specs.declared.Pair.{Pair}

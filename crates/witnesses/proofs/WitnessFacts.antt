@@ -16,7 +16,7 @@ use Rattle.model.specs.declared.Call.TheVariants.{Empty, Gate, Upcall}
 use Rattle.principals.specs.Principals.{highest}
 use Rattle.model.specs.Record.{State, Location, register, word}
 use Rattle.model.specs.WellFormed.{no_gate}
-use Rattle.model.specs.Step.{running, steps}
+use Rattle.model.specs.Step.{running}
 use Rattle.model.specs.Answer.{answer}
 use Rattle.model.specs.Text.{is_digit, digits, decimal_from, well_written, number, field, read_fields, field_count, line_of, read_line, lines_in, lines}
 use Rattle.causes.specs.Tests.{first_refusal}

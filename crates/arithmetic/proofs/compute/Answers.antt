@@ -1,6 +1,5 @@
 -- `arithmetic::compute` meets its contract: each op by what its function promises, or by the definition.
 -- Assumes nothing.
-use Rattle.std.proofs.Common.{rules}
 use Rattle.model.specs.Word.{compute}
 use Rattle.arithmetic.proofs.compute.Goals as goal
 

@@ -1,6 +1,6 @@
 -- `arithmetic::multiply_ticks` meets its contract.
 -- Assumes nothing.
-use Rattle.std.proofs.Common.{◌≡◌, ◌≤◌, ◌∙◌, ⊎_elim, arith}
+use Rattle.std.proofs.Common.{◌≡◌, ◌≤◌, ◌∙◌, arith}
 use lib.Count.{leading_le}
 use Rattle.model.specs.Ops.{multiply_count, multiply_ticks, significant_bits}
 use Rattle.model.proofs.Multiply.{count_le}

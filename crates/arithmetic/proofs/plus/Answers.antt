@@ -1,6 +1,5 @@
 -- `arithmetic::plus` meets its contract.
 -- Assumes nothing.
-use Rattle.std.proofs.Common.{rules}
 use Rattle.model.specs.Word.{compute}
 use Rattle.arithmetic.proofs.plus.Goals as goal
 

@@ -1,6 +1,6 @@
 -- `arithmetic::remainder` meets its contract.
 -- Assumes nothing.
-use Rattle.std.proofs.Common.{rules, eq-eqb, ne_eqb}
+use Rattle.std.proofs.Common.{eq-eqb, ne_eqb}
 use Rattle.model.specs.Word.{compute}
 use Rattle.arithmetic.proofs.remainder.Goals as goal
 

@@ -1,6 +1,6 @@
 -- `arithmetic::ticks_of` meets its contract.
 -- Assumes nothing.
-use Rattle.std.proofs.Common.{arith, rules}
+use Rattle.std.proofs.Common.{arith}
 use Rattle.model.specs.Ops.{multiply_ticks}
 use Rattle.model.proofs.Multiply.{count_le}
 use Rattle.arithmetic.proofs.ticks_of.Goals as goal

@@ -1,7 +1,6 @@
 -- `decisions::decide` meets its contract.
 -- Assumes nothing.
 use mathlib.Core.Path.{refl}
-use borrow.Author.Rules.{rules}
 use Rattle.decisions.proofs.decide.Goals as goal
 
 pub returns : goal.returns

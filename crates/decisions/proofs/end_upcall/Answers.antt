@@ -1,7 +1,6 @@
 -- `decisions::end_upcall` meets its contract.
 -- Assumes nothing.
 use mathlib.Core.Path.{sym, ◌∙◌}
-use borrow.Author.Rules.{rules}
 use Rattle.decisions.proofs.Deciding.{end_closes, end_passes}
 use Rattle.decisions.proofs.end_upcall.Goals as goal
 

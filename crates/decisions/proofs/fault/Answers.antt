@@ -1,7 +1,6 @@
 -- `decisions::fault` meets its contract.
 -- Assumes nothing.
 use mathlib.Core.Path.{sym, ◌∙◌}
-use borrow.Author.Rules.{rules}
 use Rattle.decisions.proofs.Deciding.{fault_closes, fault_stalls, fault_goes}
 use Rattle.decisions.proofs.fault.Goals as goal
 

@@ -1,7 +1,6 @@
 -- `decisions::halt` meets its contract.
 -- Assumes nothing.
 use mathlib.Core.Path.{sym, ◌∙◌}
-use borrow.Author.Rules.{rules}
 use Rattle.decisions.proofs.Deciding.{halt_closes, halt_stops}
 use Rattle.decisions.proofs.halt.Goals as goal
 

@@ -1,7 +1,6 @@
 -- `decisions::in_limit` meets its contract.
 -- Assumes nothing.
 use native.Mathlib.Omega.{arith}
-use borrow.Author.Rules.{rules}
 use Rattle.decisions.proofs.Limiting.{limited_spend, limited_stall, limited_reached, limited_close, limited_barred, limited_carry, limited_over}
 use Rattle.decisions.proofs.in_limit.Goals as goal
 

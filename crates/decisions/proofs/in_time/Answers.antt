@@ -1,7 +1,6 @@
 -- `decisions::in_time` meets its contract.
 -- Assumes nothing.
 use mathlib.Core.Path.{sym, ◌∙◌}
-use borrow.Author.Rules.{rules}
 use Rattle.decisions.proofs.Deciding.{past_time, within_time, no_time}
 use Rattle.decisions.proofs.in_time.Goals as goal
 

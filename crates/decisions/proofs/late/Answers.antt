@@ -1,7 +1,6 @@
 -- `decisions::late` meets its contract.
 -- Assumes nothing.
 use mathlib.Core.Path.{sym, ◌∙◌}
-use borrow.Author.Rules.{rules}
 use Rattle.decisions.proofs.Deciding.{late_closes, late_spends}
 use Rattle.decisions.proofs.late.Goals as goal
 

@@ -1,7 +1,6 @@
 -- `decisions::plan` meets its contract.
 -- Assumes nothing.
 use mathlib.Core.Path.{refl}
-use borrow.Author.Rules.{rules}
 use Rattle.decisions.proofs.plan.Goals as goal
 
 pub returns-in-Out : goal.returns-in-Out

@@ -1,6 +1,5 @@
 -- `pacing::relabels` meets its contract.
 -- Assumes nothing.
-use borrow.Author.Rules.{rules}
 use Rattle.pacing.proofs.relabels.Goals as goal
 
 pub returns-in-Rest : goal.returns-in-Rest

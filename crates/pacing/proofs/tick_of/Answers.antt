@@ -1,6 +1,5 @@
 -- `pacing::tick_of` meets its contract.
 -- Assumes nothing.
-use borrow.Author.Rules.{rules}
 use Rattle.pacing.proofs.tick_of.Goals as goal
 
 pub returns-in-Onward : goal.returns-in-Onward

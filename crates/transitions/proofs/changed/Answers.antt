@@ -1,6 +1,5 @@
 -- `transitions::changed` meets its contract.
 -- Assumes nothing.
-use Rattle.std.proofs.Common.{rules}
 use Rattle.transitions.specs.Transitions.{changed}
 use Rattle.transitions.proofs.changed.Goals as goal
 

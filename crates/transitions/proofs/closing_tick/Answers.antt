@@ -1,6 +1,6 @@
 -- `transitions::closing_tick` meets its contract.
 -- Assumes nothing.
-use Rattle.std.proofs.Common.{rules, le-ltb, lt-ltb}
+use Rattle.std.proofs.Common.{le-ltb, lt-ltb}
 use Rattle.transitions.proofs.closing_tick.Goals as goal
 
 pub returns-then-call-limit : goal.returns-then-call-limit

@@ -1,6 +1,5 @@
 -- `transitions::control_after` meets its contract.
 -- Assumes nothing.
-use Rattle.std.proofs.Common.{rules}
 use Rattle.transitions.specs.Transitions.{control_after}
 use Rattle.transitions.proofs.control_after.Goals as goal
 

@@ -1,6 +1,5 @@
 -- `transitions::restored` meets its contract.
 -- Assumes nothing.
-use Rattle.std.proofs.Common.{rules}
 use Rattle.transitions.proofs.restored.Goals as goal
 
 pub returns : goal.returns

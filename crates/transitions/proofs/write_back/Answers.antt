@@ -1,6 +1,5 @@
 -- `transitions::write_back` meets its contract.
 -- Assumes nothing.
-use Rattle.std.proofs.Common.{rules}
 use Rattle.transitions.specs.Transitions.{written_back}
 use Rattle.transitions.proofs.write_back.Goals as goal
 

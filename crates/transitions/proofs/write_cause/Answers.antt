@@ -1,6 +1,5 @@
 -- `transitions::write_cause` meets its contract.
 -- Assumes nothing.
-use Rattle.std.proofs.Common.{rules}
 use Rattle.transitions.proofs.write_cause.Goals as goal
 
 pub returns-then-flows_to : goal.returns-then-flows_to

@@ -1,6 +1,5 @@
 -- `transitions::write_label` meets its contract.
 -- Assumes nothing.
-use Rattle.std.proofs.Common.{rules}
 use Rattle.transitions.proofs.write_label.Goals as goal
 
 pub returns-in-SetLabel : goal.returns-in-SetLabel

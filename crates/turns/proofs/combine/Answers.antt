@@ -1,6 +1,5 @@
 -- `turns::combine` meets its contract.
 -- Assumes nothing.
-use Rattle.std.proofs.Common.{rules}
 use Rattle.turns.proofs.Assigning.{assigned_if}
 use Rattle.turns.proofs.combine.Goals as goal
 

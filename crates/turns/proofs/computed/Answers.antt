@@ -1,7 +1,7 @@
 -- `turns::computed` meets its contract.
 -- Assumes nothing.
 use mathlib.Core.Bool.{false≢true}
-use Rattle.std.proofs.Common.{sym, ◌∙◌, rules}
+use Rattle.std.proofs.Common.{sym, ◌∙◌}
 use Rattle.turns.proofs.computed.Goals as goal
 
 pub returns : goal.returns

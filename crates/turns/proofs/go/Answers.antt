@@ -1,6 +1,6 @@
 -- `turns::go` meets its contract.
 -- Assumes nothing.
-use Rattle.std.proofs.Common.{rules, le-ltb, lt-ltb}
+use Rattle.std.proofs.Common.{le-ltb, lt-ltb}
 use Rattle.turns.specs.Turns.{gone}
 use Rattle.turns.proofs.go.Goals as goal
 

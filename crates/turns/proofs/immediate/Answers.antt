@@ -1,6 +1,5 @@
 -- `turns::immediate` meets its contract.
 -- Assumes nothing.
-use Rattle.std.proofs.Common.{rules}
 use Rattle.turns.proofs.immediate.Goals as goal
 
 pub returns : goal.returns

@@ -1,6 +1,5 @@
 -- `turns::next` meets its contract.
 -- Assumes nothing.
-use Rattle.std.proofs.Common.{rules}
 use Rattle.turns.specs.Turns.{next}
 use Rattle.turns.proofs.next.Goals as goal
 

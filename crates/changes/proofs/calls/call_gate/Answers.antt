@@ -5,7 +5,6 @@ use mathlib.Core.Path.{◌≡◌, sym, ◌∙◌}
 use mathlib.Core.Bool.{true}
 use mathlib.Core.List.{List}
 use borrow.Author.Tests.{lt-ltb, le-ltb}
-use borrow.Author.Rules.{rules}
 use Rattle.model.specs.Record.{state_from, value_at, label_at, is_empty}
 use Rattle.model.specs.Word.{gate_call}
 use Rattle.model.specs.Ops.{open_gate, does, row, may_call_gate, table}

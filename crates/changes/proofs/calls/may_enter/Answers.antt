@@ -1,6 +1,5 @@
 -- `changes::calls::may_enter` meets its contract.
 -- Assumes nothing.
-use borrow.Author.Rules.{rules}
 use Rattle.changes.proofs.calls.may_enter.Goals as goal
 
 pub returns : goal.returns

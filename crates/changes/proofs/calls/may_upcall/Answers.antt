@@ -1,6 +1,5 @@
 -- `changes::calls::may_upcall` meets its contract.
 -- Assumes nothing.
-use borrow.Author.Rules.{rules}
 use Rattle.changes.proofs.calls.may_upcall.Goals as goal
 
 pub returns : goal.returns

@@ -6,7 +6,6 @@ use mathlib.Core.Bool.{false}
 use mathlib.Core.List.{List}
 use native.Mathlib.Omega.{arith}
 use lib.ListN.{get_or}
-use borrow.Author.Rules.{rules}
 use Rattle.model.specs.declared.Fixed.{Fixed}
 use Rattle.model.specs.Record.{state_from, value_at, label_at, is_upcall}
 use Rattle.model.specs.Word.{upcall}

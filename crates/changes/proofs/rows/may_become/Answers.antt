@@ -1,7 +1,6 @@
 -- `changes::rows::may_become` meets its contract.
 -- Assumes nothing.
 use borrow.Author.Tests.{lt-ltb, le-ltb}
-use borrow.Author.Rules.{rules}
 use Rattle.model.specs.Ops.{is_label}
 use Rattle.changes.proofs.rows.may_become.Goals as goal
 

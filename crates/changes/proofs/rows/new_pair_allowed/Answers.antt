@@ -1,7 +1,6 @@
 -- `changes::rows::new_pair_allowed` meets its contract.
 -- Assumes nothing.
 use borrow.Author.Tests.{lt-ltb, le-ltb}
-use borrow.Author.Rules.{rules}
 use Rattle.model.specs.Ops.{is_label}
 use Rattle.changes.proofs.rows.new_pair_allowed.Goals as goal
 

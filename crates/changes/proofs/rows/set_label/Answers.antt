@@ -6,7 +6,6 @@ use mathlib.Core.Bool.{◌&&◌}
 use mathlib.Core.List.{List}
 use lib.Dec.{ltb}
 use lib.ListN.{get_or}
-use borrow.Author.Rules.{rules}
 use Rattle.model.specs.declared.Fixed.{Fixed}
 use Rattle.model.specs.Numbers.{zero_register}
 use Rattle.model.specs.Record.{register, state_from, value_at, label_at}

@@ -1,6 +1,5 @@
 -- `pacing::ranges::calls_fit` meets its contract.
 -- Assumes nothing.
-use borrow.Author.Rules.{rules}
 use Rattle.pacing.proofs.ranges.calls_fit.Goals as goal
 
 pub returns-in-Empty : goal.returns-in-Empty

@@ -1,6 +1,5 @@
 -- `pacing::ranges::is_fitting` meets its contract.
 -- Assumes nothing.
-use borrow.Author.Rules.{rules}
 use Rattle.model.specs.WellFormed.{lent_whole}
 use Rattle.pacing.proofs.ranges.is_fitting.Goals as goal
 

@@ -1,6 +1,5 @@
 -- `pacing::ranges::is_timely` meets its contract.
 -- Assumes nothing.
-use borrow.Author.Rules.{rules}
 use Rattle.pacing.proofs.ranges.is_timely.Goals as goal
 
 pub returns-in-Upcall : goal.returns-in-Upcall

@@ -1,6 +1,5 @@
 -- `parts::calls::deadline_of` meets its contract.
 -- Assumes nothing.
-use borrow.Author.Rules.{rules}
 use native.Mathlib.Omega.{arith}
 use Rattle.parts.proofs.calls.deadline_of.Goals as goal
 

@@ -1,6 +1,5 @@
 -- `parts::calls::kept_pair` meets its contract.
 -- Assumes nothing.
-use borrow.Author.Rules.{rules}
 use Rattle.parts.proofs.calls.kept_pair.Goals as goal
 
 pub returns-in-Empty : goal.returns-in-Empty

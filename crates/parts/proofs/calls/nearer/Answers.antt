@@ -1,6 +1,5 @@
 -- `parts::calls::nearer` meets its contract.
 -- Assumes nothing.
-use borrow.Author.Rules.{rules}
 use native.Mathlib.Omega.{arith}
 use borrow.Author.Tests.{lt-ltb, le-ltb}
 use Rattle.parts.proofs.calls.nearer.Goals as goal

@@ -1,6 +1,5 @@
 -- `parts::live::frame_of` meets its contract.
 -- Assumes nothing.
-use borrow.Author.Rules.{rules}
 use Rattle.parts.proofs.live.frame_of.Goals as goal
 
 pub returns-in-Empty : goal.returns-in-Empty

@@ -1,7 +1,6 @@
 -- `parts::live::live_of` meets its contract.
 -- Assumes nothing.
 use mathlib.Core.Path.{sym, ◌∙◌}
-use borrow.Author.Rules.{rules}
 use Rattle.parts.proofs.live.live_of.Goals as goal
 
 pub returns-then-is_empty : goal.returns-then-is_empty
