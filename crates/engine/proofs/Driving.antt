@@ -23,7 +23,6 @@ use Rattle.model.specs.Step.{Decision as Decides, Fetched, failed, fetched, know
 use Rattle.model.proofs.Truth.{choice, either, clash, and_iff}
 use Rattle.model.proofs.Legal.{ticks_long}
 use Rattle.model.proofs.Ready.{whole_lent}
-use Rattle.model.proofs.WellFormed.{step_fixed}
 use Rattle.model.proofs.Step.{step_clock, carried_clock, step_ended}
 use Rattle.model.proofs.RunTo.{late_stays, timely_goes, ended_stays}
 use Rattle.parts.specs.declared.live.Live.{Live}
@@ -55,7 +54,7 @@ use Rattle.pacing.specs.SetsLabel.{sets_label}
 use Rattle.pacing.proofs.Ticks.{tick_limit, tick_own, tick_here}
 use Rattle.pacing.proofs.Keeping.{keeps_labels}
 use Rattle.engine.specs.declared.Task.{Task}
-use Rattle.engine.specs.Stride.{fetches_relabelling, ends, stride, run_count, strode}
+use Rattle.engine.specs.Stride.{ends, run_count, strode}
 use Rattle.engine.specs.Advance.{paced}
 use Rattle.engine.specs.Inner.Drive.{context_of, Alone, finish_of, Driven}
 use Rattle.engine.proofs.Skimming.{skim_first, skim_behind, skim_stays, ended_uncommon, stopped_relabels, stride_ends, stride_goes, ends_first, ends_there}

@@ -1,21 +1,21 @@
 -- Laws about what the model decides where the hot loop did an op or stopped.
 -- Assumes nothing.
-use Prim.Native.Nat.{ℕ, zero, suc, ◌+◌, ◌≤◌, ◌<◌}
+use Prim.Native.Nat.{ℕ, ◌+◌, ◌≤◌, ◌<◌}
 use mathlib.Core.Path.{◌≡◌, refl, sym, ap, ◌∙◌}
 use mathlib.Core.Logic.{◌⊎◌, inl, inr, ⊎_elim}
 use mathlib.Core.Bool.{Bool, true, false, ◌&&◌, ◌||◌, cond, and-false}
 use native.Mathlib.Omega.{arith}
 use lib.Dec.{ltb, eqb}
-use borrow.Author.Tests.{eq-eqb, eqb-true, lt-ltb, le-ltb, ltb-true, ltb-false}
+use borrow.Author.Tests.{eq-eqb, lt-ltb, ltb-true, ltb-false}
 use Rattle.model.specs.Numbers.{unknown_op, by_failure}
 use Rattle.model.specs.Record.{State, in_upcall}
 use Rattle.model.specs.Word.{Op}
-use Rattle.model.specs.Ops.{Change, write, nothing, Effect, does, ends, Row, table}
+use Rattle.model.specs.Ops.{Change, Effect, does, ends, Row, table}
 use Rattle.model.specs.Step.{Fetched, failed, fetched, Decision, rest, spend, stall, close, carry, fetch, end_tick, finish, fault, passed, attempt, in_time, plan, beyond_limit, in_limit, running, decide, is_carried}
 use Rattle.model.proofs.Truth.{choice, either, clash, and_iff, or_iff}
 use Rattle.parts.specs.declared.stages.Reason.{Reason}
 use Rattle.parts.specs.declared.stages.Reason.TheVariants.{Out, Late, Outside, Unreadable, Failed, Rest}
-use Rattle.parts.specs.Calls.{nearer, deadline_of}
+use Rattle.parts.specs.Calls.{deadline_of}
 use Rattle.parts.specs.Stages.{is_common_op, fetches_common, late_of, plan_for}
 use Rattle.sprint.specs.Skim.{is_common}
 use Rattle.sprint.specs.Sprint.{Overdue, Stopped}

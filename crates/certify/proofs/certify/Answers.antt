@@ -1,7 +1,6 @@
 -- `certify::certify` meets its contract.
 -- Assumes nothing.
 use mathlib.Core.Path.{ap}
-use borrow.Author.Rules.{rules}
 use Rattle.model.specs.Record.{Bank, lent}
 use Rattle.causes.specs.Causes.{is_done}
 use Rattle.certify.proofs.Answer.{loaded_fit, certified_refused, certified_done}

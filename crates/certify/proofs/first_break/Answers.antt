@@ -1,6 +1,5 @@
 -- `certify::first_break` meets its contract.
 -- Assumes nothing.
-use borrow.Author.Rules.{rules}
 use Rattle.certify.proofs.first_break.Goals as goal
 
 pub returns-then-attempted : goal.returns-then-attempted

@@ -1,6 +1,5 @@
 -- `certify::steps_left` meets its contract.
 -- Assumes nothing.
-use borrow.Author.Rules.{rules}
 use borrow.Author.Tests.{eq-eqb, ne_eqb}
 use Rattle.certify.proofs.steps_left.Goals as goal
 

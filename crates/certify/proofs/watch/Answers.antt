@@ -2,9 +2,8 @@
 -- Assumes nothing.
 use mathlib.Core.Path.{◌∙◌}
 use native.Mathlib.Omega.{arith}
-use borrow.Author.Rules.{rules}
 use Rattle.model.specs.Record.{state_from}
-use Rattle.certify.proofs.Watching.{Watching, loaded_ready, watching_start, watching_clock, watching_less, watching_turn, watching_end}
+use Rattle.certify.proofs.Watching.{loaded_ready, watching_start, watching_clock, watching_less, watching_turn, watching_end}
 use Rattle.certify.proofs.Attempt.{attempted_there}
 use Rattle.certify.proofs.watch.Goals as goal
 

@@ -1,11 +1,7 @@
 -- `certify::watch` meets its contract.
 -- Assumes nothing.
-use mathlib.Core.Path.{◌∙◌}
-use native.Mathlib.Omega.{arith}
-use borrow.Author.Rules.{rules}
-use Rattle.model.specs.Record.{State, state_from}
-use Rattle.certify.proofs.Watching.{Watching, loaded_ready, watching_start, watching_clock, watching_less, watching_turn, watching_end}
-use Rattle.certify.proofs.Attempt.{attempted_there}
+use Rattle.model.specs.Record.{state_from}
+use Rattle.certify.proofs.Watching.{Watching}
 use Rattle.certify.proofs.watch.Given as goal
 
 abbrev pub invariant-loop-found : goal.invariant-loop-found

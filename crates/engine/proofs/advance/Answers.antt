@@ -1,6 +1,5 @@
 -- `engine::advance` meets its contract.
 -- Assumes nothing.
-use borrow.Author.Rules.{rules}
 use mathlib.Core.Path.{sym, ◌∙◌}
 use Rattle.pacing.proofs.Fitting.{ranges_of}
 use Rattle.engine.proofs.advance.Goals as goal

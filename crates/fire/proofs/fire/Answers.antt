@@ -1,6 +1,5 @@
 -- `fire::fire` meets its contract: what its load has given is fired.
 -- Assumes nothing.
-use borrow.Author.Rules.{rules}
 use Rattle.model.specs.Record.{lent}
 use Rattle.model.specs.Load.{load}
 use Rattle.model.specs.Program.{fire}

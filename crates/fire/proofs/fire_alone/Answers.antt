@@ -1,7 +1,6 @@
 -- `fire::fire_alone` meets its contract: the memory that it holds is the program's.
 -- Assumes nothing.
 use mathlib.Core.Path.{ap}
-use borrow.Author.Rules.{rules}
 use Rattle.model.specs.Program.{Firing, program_memory, fire_alone}
 use Rattle.fire.specs.Fired.{replied}
 use Rattle.fire.proofs.fire_alone.Goals as goal

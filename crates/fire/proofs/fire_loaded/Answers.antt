@@ -1,7 +1,6 @@
 -- `fire::fire_loaded` meets its contract: a refusal's line, or the listing after the run.
 -- Assumes nothing.
 use mathlib.Core.Path.{ap}
-use borrow.Author.Rules.{rules}
 use Rattle.causes.specs.Causes.{is_done}
 use Rattle.model.specs.Record.{lent}
 use Rattle.machine_record.specs.Struct.{record_of}

@@ -1,6 +1,5 @@
 -- `fire::write_refusal` meets its contract: the line writer's answer, or 0 where the line didn't fit.
 -- Assumes nothing.
-use borrow.Author.Rules.{rules}
 use Rattle.fire.proofs.Laws.{refusal_short, refusal_written}
 use Rattle.fire.proofs.write_refusal.Goals as goal
 

@@ -1,7 +1,6 @@
 -- `hexfire::fire_hex` meets its contract: what its load has given is c.
 -- Assumes nothing.
 use native.Mathlib.Omega.{arith}
-use borrow.Author.Rules.{rules}
 use Rattle.model.specs.Record.{lent}
 use Rattle.model.specs.HexLoad.{load_hex}
 use Rattle.model.specs.Program.{fire_hex}

@@ -2,7 +2,6 @@
 -- Assumes nothing.
 use mathlib.Core.Path.{◌≡◌, ◌∙◌, sym}
 use mathlib.Core.Bool.{true}
-use borrow.Author.Rules.{rules}
 use Rattle.model.specs.WellFormed.{well_formed}
 use Rattle.machine_record.specs.Struct.{record_of}
 use Rattle.machine.proofs.Whole.{answered_ill, answered_short, answered_done}

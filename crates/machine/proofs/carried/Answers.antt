@@ -1,6 +1,5 @@
 -- `machine::carried` meets its contract.
 -- Assumes nothing.
-use borrow.Author.Rules.{rules}
 use Rattle.machine.proofs.Whole.{carried_of}
 use Rattle.machine.proofs.carried.Goals as goal
 

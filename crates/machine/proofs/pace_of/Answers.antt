@@ -1,6 +1,5 @@
 -- `machine::pace_of` meets its contract.
 -- Assumes nothing.
-use borrow.Author.Rules.{rules}
 use Rattle.machine.proofs.pace_of.Goals as goal
 
 pub returns-in-Run : goal.returns-in-Run

@@ -1,10 +1,6 @@
 -- `sprint::sprint` meets its contract.
 -- Assumes nothing.
-use Rattle.std.proofs.Common.{◌≤◌, length, ◌∙◌, arith, rules}
-use Rattle.parts.specs.declared.stages.Reason.TheVariants.{Outside, Unreadable}
-use Rattle.model.proofs.Ready.{whole_lengths}
-use Rattle.sprint.specs.Sprint.{state_with}
-use Rattle.sprint.proofs.Loop.{Runs, Does, runs_none, runs_more, ran_out, stopped, stopped_turn, outside, not_readable, readable, too_short, lent_whole_lem}
+use Rattle.sprint.proofs.Loop.{Runs}
 use Rattle.sprint.proofs.sprint.Given as goal
 
 abbrev pub invariant-loop-left : goal.invariant-loop-left

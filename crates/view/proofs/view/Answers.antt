@@ -1,7 +1,6 @@
 -- `view::view` meets its contract: a refused load, a tick above the limit, or the listing after the run to the tick.
 -- Assumes nothing.
 use mathlib.Core.Path.{ap, ◌∙◌}
-use borrow.Author.Rules.{rules}
 use Rattle.causes.specs.Causes.{is_done}
 use Rattle.model.specs.Record.{lent}
 use Rattle.view.proofs.Laws.{refused_view, above_view, listed_view}

@@ -1,6 +1,5 @@
 -- `certify::breaks::break_of` meets its contract.
 -- Assumes nothing.
-use borrow.Author.Rules.{rules}
 use Rattle.model.specs.Record.{newest, in_upcall}
 use Rattle.certify.specs.Inner.Breaks.{break_with}
 use Rattle.certify.proofs.breaks.break_of.Goals as goal

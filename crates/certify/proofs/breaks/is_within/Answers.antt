@@ -1,6 +1,5 @@
 -- `certify::breaks::is_within` meets its contract.
 -- Assumes nothing.
-use borrow.Author.Rules.{rules}
 use Rattle.model.specs.Seen.{within}
 use Rattle.certify.proofs.breaks.is_within.Goals as goal
 

@@ -1,11 +1,7 @@
 -- `certify::breaks::leads_within` meets its contract.
 -- Assumes nothing.
-use Prim.Native.Nat.{◌≤◌}
-use mathlib.Core.Path.{◌≡◌, refl, sym, ◌∙◌}
+use mathlib.Core.Path.{refl, sym, ◌∙◌}
 use native.Mathlib.Omega.{arith}
-use borrow.Author.Rules.{rules}
-use Rattle.certificates.specs.Certificate.{leads_within}
-use Rattle.model.specs.declared.Fixed.{Fixed}
 use Rattle.certify.proofs.Leads.{leads_here, leads_before, leads_none}
 use Rattle.certify.proofs.breaks.leads_within.Goals as goal
 

@@ -1,12 +1,9 @@
 -- `certify::breaks::leads_within` meets its contract.
 -- Assumes nothing.
 use Prim.Native.Nat.{◌≤◌}
-use mathlib.Core.Path.{◌≡◌, refl, sym, ◌∙◌}
-use native.Mathlib.Omega.{arith}
-use borrow.Author.Rules.{rules}
+use mathlib.Core.Path.{◌≡◌}
 use Rattle.certificates.specs.Certificate.{leads_within}
 use Rattle.model.specs.declared.Fixed.{Fixed}
-use Rattle.certify.proofs.Leads.{leads_here, leads_before, leads_none}
 use Rattle.certify.proofs.breaks.leads_within.Given as goal
 
 abbrev pub invariant-loop-n : goal.invariant-loop-n

@@ -1,6 +1,5 @@
 -- `certify::release::has_time` meets its contract.
 -- Assumes nothing.
-use borrow.Author.Rules.{rules}
 use Rattle.model.specs.Record.{newest}
 use Rattle.certify.specs.Inner.Release.{has_time}
 use Rattle.certify.proofs.release.has_time.Goals as goal

@@ -1,7 +1,6 @@
 -- `certify::release::relabelling` meets its contract.
 -- Assumes nothing.
 use borrow.Author.Tests.{lt-ltb, le-ltb, eq-eqb, ne_eqb}
-use borrow.Author.Rules.{rules}
 use Rattle.certify.specs.Inner.Release.{relabelling_at}
 use Rattle.certify.proofs.Attempt.{relabels_with}
 use Rattle.certify.proofs.release.relabelling.Goals as goal

@@ -1,6 +1,5 @@
 -- `certify::release::releases` meets its contract.
 -- Assumes nothing.
-use borrow.Author.Rules.{rules}
 use Rattle.certify.proofs.release.releases.Goals as goal
 
 pub returns : goal.returns

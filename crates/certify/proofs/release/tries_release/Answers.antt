@@ -3,7 +3,6 @@
 use mathlib.Core.Bool.{and-false}
 use mathlib.Core.Bool.{and-true}
 use borrow.Author.Tests.{lt-ltb, le-ltb}
-use borrow.Author.Rules.{rules}
 use Rattle.model.specs.Ops.{is_label}
 use Rattle.certify.specs.Inner.Release.{tries_with}
 use Rattle.certify.proofs.release.tries_release.Goals as goal

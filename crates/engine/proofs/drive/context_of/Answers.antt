@@ -1,6 +1,5 @@
 -- `engine::drive::context_of` meets its contract.
 -- Assumes nothing.
-use borrow.Author.Rules.{rules}
 use Rattle.engine.proofs.drive.context_of.Goals as goal
 
 pub returns : goal.returns

@@ -1,6 +1,5 @@
 -- `engine::drive::finish_of` meets its contract.
 -- Assumes nothing.
-use borrow.Author.Rules.{rules}
 use native.Mathlib.Omega.{arith}
 use Rattle.engine.proofs.drive.finish_of.Goals as goal
 

@@ -1,6 +1,5 @@
 -- `engine::drive::is_barred` meets its contract.
 -- Assumes nothing.
-use borrow.Author.Rules.{rules}
 use mathlib.Core.Path.{sym}
 use native.Mathlib.Nat.{le_trans}
 use borrow.Author.Tests.{le-ltb}

@@ -1,11 +1,8 @@
 -- `engine::turned::turn` meets its contract.
 -- Assumes nothing.
-use Prim.Native.Nat.{◌-◌}
 use mathlib.Core.Path.{refl}
 use native.Mathlib.Omega.{arith}
-use borrow.Author.Rules.{rules}
-use Rattle.model.specs.Numbers.{register_count}
-use Rattle.engine.proofs.Mirroring.{Turning, turning_none, turning_more, turning_all}
+use Rattle.engine.proofs.Mirroring.{turning_none, turning_more, turning_all}
 use Rattle.engine.proofs.turned.turn.Goals as goal
 
 pub loop-i-init : goal.loop-i-init

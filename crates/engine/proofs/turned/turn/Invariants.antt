@@ -1,11 +1,8 @@
 -- `engine::turned::turn` meets its contract.
 -- Assumes nothing.
 use Prim.Native.Nat.{◌-◌}
-use mathlib.Core.Path.{refl}
-use native.Mathlib.Omega.{arith}
-use borrow.Author.Rules.{rules}
 use Rattle.model.specs.Numbers.{register_count}
-use Rattle.engine.proofs.Mirroring.{Turning, turning_none, turning_more, turning_all}
+use Rattle.engine.proofs.Mirroring.{Turning}
 use Rattle.engine.proofs.turned.turn.Given as goal
 
 abbrev pub invariant-loop-i : goal.invariant-loop-i

@@ -1,6 +1,6 @@
 -- `sprint::memory::load` meets its contract.
 -- Assumes nothing.
-use Rattle.std.proofs.Common.{rules, le-ltb, lt-ltb}
+use Rattle.std.proofs.Common.{le-ltb, lt-ltb}
 use Rattle.turns.proofs.Assigning.{assigned_is, assigned_turn}
 use Rattle.sprint.proofs.memory.load.Goals as goal
 

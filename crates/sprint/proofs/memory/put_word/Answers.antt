@@ -1,6 +1,6 @@
 -- `sprint::memory::put_word` meets its contract.
 -- Assumes nothing.
-use Rattle.std.proofs.Common.{rules, le-ltb, lt-ltb}
+use Rattle.std.proofs.Common.{le-ltb, lt-ltb}
 use Rattle.sprint.proofs.memory.put_word.Goals as goal
 
 pub returns-then-may_go : goal.returns-then-may_go

@@ -1,6 +1,6 @@
 -- `sprint::memory::store` meets its contract.
 -- Assumes nothing.
-use Rattle.std.proofs.Common.{rules, le-ltb, lt-ltb}
+use Rattle.std.proofs.Common.{le-ltb, lt-ltb}
 use Rattle.sprint.proofs.memory.store.Goals as goal
 
 pub returns-then-spot-gt3 : goal.returns-then-spot-gt3

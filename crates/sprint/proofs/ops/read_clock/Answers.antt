@@ -1,6 +1,6 @@
 -- `sprint::ops::read_clock` meets its contract.
 -- Assumes nothing.
-use Rattle.std.proofs.Common.{◌∙◌, arith, rules}
+use Rattle.std.proofs.Common.{◌∙◌, arith}
 use Rattle.sprint.proofs.ops.read_clock.Goals as goal
 
 pub returns : goal.returns
