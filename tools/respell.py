@@ -11,7 +11,7 @@ import re
 
 WORD = re.compile(r"[A-Za-z_][A-Za-z0-9_\-'′₀-₉]*")
 DECLARED = re.compile(
-    r"^\s*(?:pub\s+)?(?:abbrev\s+|unfoldable\s+|record\s+|data\s+)*(?:pub\s+)?([^\s:(){}.,=λ;]+)\s*:(?!=)"
+    r"^\s*(?:pub\s+)?(?:abbrev\s+|unfoldable\s+|record\s+|data\s+)*(?:pub\s+)?([^\s:(){}.,=λ;]+)\s*(?:\{[^}]*\}\s*)?:(?!=)"
 )
 # A law whose name in snake case is a word of the library that stands beside it.
 APART = {"bit-and": "bit_of_and", "bit-or": "bit_of_or", "bit-xor": "bit_of_xor"}

@@ -51,8 +51,8 @@ pub same_outcome : (o o' : Outcome) → number_of o ≡ number_of o' → o ≡ o
 same_outcome o o' e = sym (outcome_of_number o) ∙ ap outcome_of e ∙ outcome_of_number o'
 
 -- No refusal is done.
-pub done-or-refused {ℓ} : {P : Type ℓ} {o : Outcome} {c : Cause} → o ≡ Done → o ≡ Refused c → P
-done-or-refused e f = let z : ◌≡◌ {A = ℕ} 0 1 = cc in absurd (omega arith)
+pub done_or_refused {ℓ} : {P : Type ℓ} {o : Outcome} {c : Cause} → o ≡ Done → o ≡ Refused c → P
+done_or_refused e f = let z : ◌≡◌ {A = ℕ} 0 1 = cc in absurd (omega arith)
 
 -- What is told as done is done.
 pub is_done_lem : (o : Outcome) → is_done o ≡ true → o ≡ Done

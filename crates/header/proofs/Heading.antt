@@ -12,7 +12,7 @@ use Rattle.causes.specs.declared.Outcome.{Outcome}
 use Rattle.causes.specs.declared.Outcome.TheVariants.{Done, Refused}
 use Rattle.causes.specs.Causes.{is_done}
 use Rattle.causes.specs.Tests.{first_refusal}
-use Rattle.causes.proofs.Numbers.{done-or-refused}
+use Rattle.causes.proofs.Numbers.{done_or_refused}
 use Rattle.causes.proofs.Order.{all_pass}
 use Rattle.model.specs.declared.format.Line.{Line}
 use Rattle.model.specs.declared.format.Line.TheVariants.{M, G, R, W, Malformed}
@@ -94,7 +94,7 @@ module _ {bytes : ℕ} {first : Line} {h : Header} (b : Begun bytes first h) (w 
 -- An answer that is no refusal: the verdict accepts its record.
 pub headed_accepts : (v : Verdict Machine) (m : Bank) (a : Loading) → a ≡ headed v m → a.outcome ≡ Done
     → v ≡ accept a.machine
-headed_accepts (refuse c n) m a e z = done-or-refused z (ap (λ (x : Loading). x.outcome) e)
+headed_accepts (refuse c n) m a e z = done_or_refused z (ap (λ (x : Loading). x.outcome) e)
 headed_accepts (accept r) m a e z = ap accept (sym (ap (λ (x : Loading). x.machine) e))
 
 -- An answer that is a refusal is that of every load that goes on from the verdict.

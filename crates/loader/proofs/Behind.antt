@@ -8,7 +8,7 @@ use Rattle.labels.proofs.Constants.{lowest_number}
 use Rattle.causes.specs.declared.Cause.{Cause}
 use Rattle.causes.specs.declared.Outcome.TheVariants.{Done, Refused}
 use Rattle.causes.specs.Causes.{is_done}
-use Rattle.causes.proofs.Numbers.{done-or-refused}
+use Rattle.causes.proofs.Numbers.{done_or_refused}
 use Rattle.model.specs.declared.format.Line.{Line}
 use Rattle.model.specs.Numbers.{most_words}
 use Rattle.model.specs.Record.{Bank, Machine, lent}
@@ -26,7 +26,7 @@ use Rattle.loader.specs.Inner.Judging.{LinesJudged, load_lines}
 pub refused_lines : (r : Loaded) (c : Cause) (n : ℕ) (header : Machine) (ls : List Line) (before after : Bank) → IsRefusal r c n
     → refuse c n ≡ judge header behind_header 2 ls → LinesJudged header ls before r after
 refused_lines r c n header ls before after h e =
-    record { answer = λ w l. rw (h.0, h.1, h.2, ← e); kept = λ d. done-or-refused d h.0 }
+    record { answer = λ w l. rw (h.0, h.1, h.2, ← e); kept = λ d. done_or_refused d h.0 }
 
 -- The words are kept in arrays that were blank.
 pub judged_blank : (header : Machine) (ls : List Line) (j : Loaded) (kept : Bank)

@@ -16,7 +16,7 @@ use Rattle.labels.specs.Label.{label_count, lowest}
 use Rattle.labels.proofs.Constants.{lowest_number}
 use Rattle.causes.specs.declared.Cause.TheVariants.{ShortMemory, MalformedRecord, MisplacedByte}
 use Rattle.causes.specs.declared.Outcome.TheVariants.{Done, Refused}
-use Rattle.causes.proofs.Numbers.{done-or-refused}
+use Rattle.causes.proofs.Numbers.{done_or_refused}
 use Rattle.model.specs.Numbers.{value_count}
 use Rattle.model.specs.Record.{Bank, Machine}
 use Rattle.model.specs.Inner.Typed.{Below}
@@ -106,12 +106,12 @@ alone_accepts text m r e =
 
 settled_records : (r : Machine) (label : ℕ) (v : Verdict (List ℕ)) (m : Bank) → Heads m r → label < label_count
     → (settle_records r label v m).outcome ≡ Done → Loaded (state_of_load (settle_records r label v m))
-settled_records r label (refuse c n) m a h e = done-or-refused e refl
+settled_records r label (refuse c n) m a h e = done_or_refused e refl
 settled_records r label (accept places) m a h e = heads_loaded a _ (placed_lent r.fixed.size label places m h)
 
 settled_hex : (v : Verdict Machine) (hex : List ℕ) (label : ℕ) (m : Bank) → ((r : Machine) → v ≡ accept r → Heads m r)
     → label < label_count → (settle_hex v hex label m).outcome ≡ Done → Loaded (state_of_load (settle_hex v hex label m))
-settled_hex (refuse c n) hex label m f h e = done-or-refused e refl
+settled_hex (refuse c n) hex label m f h e = done_or_refused e refl
 settled_hex (accept r) hex label m f h e =
     settled_records r label (judge_records 1 (records hex) (no_bytes r.fixed.size)) m (f r refl) h e
 
@@ -146,7 +146,7 @@ records_not_short n (Data at bs ∷ rs) places =
 settle_not_short : (r : Machine) (label : ℕ) (v : Verdict (List ℕ)) (m : Bank) → NotShort v
     → (settle_records r label v m).outcome ≡ Refused ShortMemory → ⊥
 settle_not_short r label (refuse c n) m h e = let q : c ≡ ShortMemory = cc in h n (rw q refl)
-settle_not_short r label (accept places) m h e = done-or-refused refl e
+settle_not_short r label (accept places) m h e = done_or_refused refl e
 
 hex_settle_not_short : (v : Verdict Machine) (hex : List ℕ) (label : ℕ) (m : Bank) → NotShort v
     → (settle_hex v hex label m).outcome ≡ Refused ShortMemory → ⊥

@@ -18,7 +18,7 @@ use Rattle.causes.specs.declared.Outcome.{Outcome}
 use Rattle.causes.specs.declared.Outcome.TheVariants.{Done, Refused}
 use Rattle.causes.specs.Causes.{cause_number}
 use Rattle.causes.specs.Tests.{unless, first_refusal}
-use Rattle.causes.proofs.Numbers.{done-or-refused}
+use Rattle.causes.proofs.Numbers.{done_or_refused}
 use Rattle.causes.proofs.Order.{AllPass, all_pass, AllCauses, some_cause}
 use Rattle.model.specs.declared.CallGate.{CallGate}
 use Rattle.model.specs.declared.Control.{Control}
@@ -157,15 +157,15 @@ word_in_order r m k l v h e =
 -- ---- the lines
 
 -- No refusal is an acceptance.
-pub refuse-accept {κ} : {P : Type κ} {A : Type 0} {c : Cause} {n : ℕ} {a : A}
+pub refuse_accept {κ} : {P : Type κ} {A : Type 0} {c : Cause} {n : ℕ} {a : A}
     → ◌≡◌ {A = Verdict A} (refuse c n) (accept a) → P
-refuse-accept e = let z : ◌≡◌ {A = ℕ} 0 1 = cc in absurd (omega arith)
+refuse_accept e = let z : ◌≡◌ {A = ℕ} 0 1 = cc in absurd (omega arith)
 
 -- An accepted line passes its tests, and the lines behind it are accepted.
 pub tried_accept : {A : Type 0} (o : Outcome) (n : ℕ) (more : Verdict A) (r : A) → tried o n more ≡ accept r
     → (o ≡ Done) × (more ≡ accept r)
 tried_accept Done n more r e = (refl, e)
-tried_accept (Refused c) n more r e = refuse-accept e
+tried_accept (Refused c) n more r e = refuse_accept e
 
 pub judge_accept : (r : Machine) (last : Last) (n : ℕ) (l : Line) (ls : List Line) (r' : Machine)
     → judge r last n (l ∷ ls) ≡ accept r'
@@ -294,7 +294,7 @@ in_order_loaded r m h =
 pub unless_accept : {A : Type 0} (test : Bool) (c : Cause) (n : ℕ) (v : Verdict A) (a : A)
     → unless test (refuse c n) v ≡ accept a → (test ≡ true) × (v ≡ accept a)
 unless_accept true c n v a e = (refl, e)
-unless_accept false c n v a e = refuse-accept e
+unless_accept false c n v a e = refuse_accept e
 
 -- What is accepted behind another verdict is accepted, and so is what comes before it.
 pub record Both {A B : Type 0} (v : Verdict A) (more : A → Verdict B) (b : B) : Type 0 where
@@ -303,7 +303,7 @@ pub record Both {A B : Type 0} (v : Verdict A) (more : A → Verdict B) (b : B) 
   pub behind : more first ≡ accept b
 
 pub then_accept : {A B : Type 0} (v : Verdict A) (more : A → Verdict B) (b : B) → (v and_then more) ≡ accept b → Both v more b
-then_accept (refuse c n) more b e = refuse-accept e
+then_accept (refuse c n) more b e = refuse_accept e
 then_accept (accept a) more b e = record { first = a; accepted = refl; behind = e }
 
 -- An accepted header: the record of an M line that passes its tests.
@@ -318,10 +318,10 @@ first_accepts (M size errorpc pc p t limit) m r e =
     let h : Header = record { size = size; errorpc = errorpc; pc = pc; p = p; t = t; limit = limit } in
     let a = tried_accept (first_refusal (header_tests h m)) 1 (accept (machine_of_header h)) r e in
     record { header = h; is = cc a.1; tests = all_pass _ a.0 }
-first_accepts (G a b c) m r e = refuse-accept e
-first_accepts (R a b c) m r e = refuse-accept e
-first_accepts (W a b c) m r e = refuse-accept e
-first_accepts Malformed m r e = refuse-accept e
+first_accepts (G a b c) m r e = refuse_accept e
+first_accepts (R a b c) m r e = refuse_accept e
+first_accepts (W a b c) m r e = refuse_accept e
+first_accepts Malformed m r e = refuse_accept e
 
 pub header_accepts : (bytes : ℕ) (first : Line) (m : Bank) (r : Machine) → judge_header bytes first m ≡ accept r → Heads m r
 unfolding judge_header
@@ -366,7 +366,7 @@ accepts_loaded text m r e =
 settled : (v : Verdict Machine) (ls : List Line) (m : Bank)
     → ((r : Machine) → v ≡ accept r → Loaded (state_of r (fill ls (cleared r.fixed.size m))))
     → (settle v ls m).outcome ≡ Done → Loaded (state_of_load (settle v ls m))
-settled (refuse c n) ls m f e = done-or-refused e refl
+settled (refuse c n) ls m f e = done_or_refused e refl
 settled (accept r) ls m f e = f r refl
 
 -- An accepted load leaves a loaded state.
@@ -395,7 +395,7 @@ tried_not_short (Refused c) n more f h = λ k e. let q : c ≡ ShortMemory = cc 
 
 -- An acceptance doesn't.
 pub accept_not_short : {A : Type 0} (a : A) → NotShort (accept a)
-accept_not_short a k e = refuse-accept (sym e)
+accept_not_short a k e = refuse_accept (sym e)
 
 -- Nor does what follows, where neither part does.
 pub then_not_short : {A B : Type 0} (v : Verdict A) (more : A → Verdict B) → NotShort v → ((a : A) → NotShort (more a))
@@ -433,7 +433,7 @@ other c h k e = let q : c ≡ ShortMemory = cc in clash refl (subst Other q h)
 
 settle_not_short : (v : Verdict Machine) (ls : List Line) (m : Bank) → NotShort v → (settle v ls m).outcome ≡ Refused ShortMemory → ⊥
 settle_not_short (refuse c n) ls m h e = let q : c ≡ ShortMemory = cc in h n (rw q refl)
-settle_not_short (accept r) ls m h e = done-or-refused refl e
+settle_not_short (accept r) ls m h e = done_or_refused refl e
 
 module _ (m : Bank) (words : 2048 ≤ length m.values) (labels : 2048 ≤ length m.labels) where
   lent_enough : (h : Header) → header_in_range h ≡ true
@@ -448,7 +448,7 @@ module _ (m : Bank) (words : 2048 ≤ length m.values) (labels : 2048 ≤ length
       choice Early (is_valid (machine_of_header h).control.pair) _ _
       (λ v.
       choice Early (lent_whole h.size m) _ _
-      (λ l c q. done-or-refused refl q)
+      (λ l c q. done_or_refused refl q)
       (λ l. clash (lent_enough h e) l))
       (λ v. early InvalidPair refl))
       (λ e. early OutOfRange refl)

@@ -11,9 +11,9 @@ choice P true x y f g = f refl
 choice P false x y f g = g refl
 
 -- Two choices by tests of one outcome are one where what they choose is, as far as the test passes.
-pub same-choice {ℓ} : {A : Type ℓ} (b c : Bool) (x y z : A) → (b ≡ true → x ≡ y) → b ≡ c → cond b x z ≡ cond c y z
-same-choice true c x y z f e = f refl ∙ ap (λ (d : Bool). cond d y z) e
-same-choice false c x y z f e = ap (λ (d : Bool). cond d y z) e
+pub same_choice {ℓ} : {A : Type ℓ} (b c : Bool) (x y z : A) → (b ≡ true → x ≡ y) → b ≡ c → cond b x z ≡ cond c y z
+same_choice true c x y z f e = f refl ∙ ap (λ (d : Bool). cond d y z) e
+same_choice false c x y z f e = ap (λ (d : Bool). cond d y z) e
 
 -- A test passes or fails.
 pub either : (b : Bool) → (b ≡ true) ⊎ (b ≡ false)

@@ -21,7 +21,7 @@ use Rattle.model.specs.Ops.{Write, nothing, value, label, write, goto, enter, op
 use Rattle.model.specs.Step.{Fetched, failed, fetched, known, fetch_allowed, fetch, Decision, rest, spend, stall, close, carry, end_tick, finish, fault, attempt, in_time, plan, beyond_limit, in_limit, running, decide, cause_allowed, cause_write, write_of, written, with_control, changed, control_after, apply, step}
 use Rattle.model.specs.Seen.{exists, SameSetting}
 use Rattle.model.proofs.Division.{division_ticks}
-use Rattle.model.proofs.Truth.{either, clash, and_iff, same-choice}
+use Rattle.model.proofs.Truth.{either, clash, and_iff, same_choice}
 use Rattle.model.proofs.Writes.{same}
 use Rattle.model.proofs.Ready.{Ready}
 use Rattle.model.proofs.Legal.{Inside}
@@ -353,9 +353,9 @@ module _ {sees : ℕ → Bool} {c : Control} {a b : State} (h : Together sees c 
   pub fetch_same : fetch (with_control a c) ≡ fetch (with_control b c)
   unfolding fetch
   fetch_same =
-      same-choice (ltb c.pc a.fixed.size) (ltb c.pc b.fixed.size) _ _ _
+      same_choice (ltb c.pc a.fixed.size) (ltb c.pc b.fixed.size) _ _ _
       (λ e. let x : exists (with_control a c) (word c.pc) ≡ true = unfold exists in e in
-      same-choice (fetch_allowed (with_control a c)) (fetch_allowed (with_control b c)) _ _ _
+      same_choice (fetch_allowed (with_control a c)) (fetch_allowed (with_control b c)) _ _ _
       (λ k. ap (λ (w : ℕ). known w (decode (op_field w))) (flows_equal h.down h.alike h.pc (word c.pc) x k).1)
       (flows_alike h.down h.alike h.pc (word c.pc) x))
       (let size : a.fixed.size ≡ b.fixed.size = h.setting.size in ap (ltb c.pc) size)

@@ -16,8 +16,8 @@ pub mod Seen
 pub mod Listing
 pub mod Program
 -- ======== Here the definition of the machine ends. Everything else, here and in proofs/, is derived from it. View puts load,
--- the run to a tick and the listing for a label together, and states what its viewer is promised. PairTest has the step as it
--- was while op 20 tested the pair of its gate, and states that no well-formed record is answered otherwise.
+-- the run to a tick and the listing for a label together. PairTest has the step as it was while op 20 tested the pair of its
+-- gate, and states that no well-formed record is answered otherwise.
 pub mod PairTest
 pub mod Facts
 pub mod HexFacts

@@ -175,7 +175,7 @@ pub fn write_back(
     values: &mut [u32; REGISTER_COUNT],
     labels: &mut [Bits; REGISTER_COUNT],
 )
-    ensures { record { values = values.exit.now; labels = labels.new } ≡ written_back decision live (record { values = values.entry.now; labels = labels.old }) }
+    ensures { record { values = values.new; labels = labels.new } ≡ written_back decision live (record { values = values.old; labels = labels.old }) }
 {
     let pair = live.pair;
     match decision {

@@ -15,16 +15,16 @@ use Rattle.loader.proofs.load_lines.Goals as goal
 use Rattle.loader.proofs.load_lines.Goals.{After-copy_words, After-judge_lines-judged, In-Done}
 
 -- What is kept of them.
-abbrev kept-words : After-judge_lines-judged → List ℕ
-kept-words c = c.judge_lines-judged.new.words
+abbrev kept_words : After-judge_lines-judged → List ℕ
+kept_words c = c.judge_lines-judged.new.words
 
-abbrev kept-labels : After-judge_lines-judged → List ℕ
-kept-labels c = c.judge_lines-judged.new.labels
+abbrev kept_labels : After-judge_lines-judged → List ℕ
+kept_labels c = c.judge_lines-judged.new.labels
 
 -- They are judged.
 judged : (c : After-judge_lines-judged)
     → LinesJudged (record_of c.args.header) (lines (drop c.args.start c.args.text.now))
-    (blank most_words) c.judge_lines-judged.result (lent (kept-words c) (kept-labels c))
+    (blank most_words) c.judge_lines-judged.result (lent (kept_words c) (kept_labels c))
 judged c = judged_blank _ _ _ _ c.judge_lines-judged.ensures
 
 -- The lines, seen from where they are accepted.

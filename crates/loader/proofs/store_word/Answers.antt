@@ -20,8 +20,8 @@ InRange c n =
 in_words : (c : In-W) → InRange c (length c.args.words.now)
 in_words c = stored_range _ _ _ _ _ c.requires.line_value c.in-W.is
 
-in-labels : (c : In-W) → InRange c (length c.args.labels.now)
-in-labels c = stored_range _ _ _ _ _ c.requires.line_value_2 c.in-W.is
+in_labels : (c : In-W) → InRange c (length c.args.labels.now)
+in_labels c = stored_range _ _ _ _ _ c.requires.line_value_2 c.in-W.is
 
 pub overflow_cast-words : goal.overflow_cast-words
 overflow_cast-words c = omega (arith, in_words c)
@@ -33,10 +33,10 @@ pub bounds-words-at : goal.bounds-words-at
 bounds-words-at c = omega (arith, in_words c)
 
 pub overflow_cast-labels : goal.overflow_cast-labels
-overflow_cast-labels c = omega (arith, in-labels c)
+overflow_cast-labels c = omega (arith, in_labels c)
 
 pub bounds-labels-at : goal.bounds-labels-at
-bounds-labels-at c = omega (arith, in-labels c)
+bounds-labels-at c = omega (arith, in_labels c)
 
 pub returns : goal.returns
 returns c = rw c.in-W.is

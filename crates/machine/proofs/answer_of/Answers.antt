@@ -9,21 +9,21 @@ use Rattle.machine.proofs.answer_of.Goals as goal
 use Rattle.machine.proofs.answer_of.Goals.{Then-is_well_formed}
 
 -- The first test passed.
-well-formed : (c : Then-is_well_formed) → well_formed (record_of c.args.machine) ≡ true
-well-formed c = sym c.is_well_formed.ensures ∙ c.if-is_well_formed.true
+well_formed_lem : (c : Then-is_well_formed) → well_formed (record_of c.args.machine) ≡ true
+well_formed_lem c = sym c.is_well_formed.ensures ∙ c.if-is_well_formed.true
 
 pub carried-machine-requires : goal.carried-machine-requires
 carried-machine-requires c =
     let lent = c in
     let tested = lent in
-    (well-formed (goal.at.carried-machine-requires c).Then-is_well_formed, sym tested.is_lent_whole.ensures ∙ lent.if-is_lent_whole.true)
+    (well_formed_lem (goal.at.carried-machine-requires c).Then-is_well_formed, sym tested.is_lent_whole.ensures ∙ lent.if-is_lent_whole.true)
 
 pub returns-then-is_lent_whole : goal.returns-then-is_lent_whole
 returns-then-is_lent_whole c =
     let done = c in
     let lent = done in
     let tested = lent in
-    answered_done _ _ _ _ (well-formed (goal.at.returns-then-is_lent_whole c).Then-is_well_formed) (sym tested.is_lent_whole.ensures ∙ lent.if-is_lent_whole.true)
+    answered_done _ _ _ _ (well_formed_lem (goal.at.returns-then-is_lent_whole c).Then-is_well_formed) (sym tested.is_lent_whole.ensures ∙ lent.if-is_lent_whole.true)
     done.carried-machine.ensures
 
 pub returns-then-is_well_formed : goal.returns-then-is_well_formed
@@ -32,7 +32,7 @@ returns-then-is_well_formed c =
     let fit = tested in
     let start = fit in
     rw c.refused.ensures
-    (answered_short start.args.request start.args.machine start.args.words.now start.args.marks.now (well-formed (goal.at.returns-then-is_well_formed c).Then-is_well_formed)
+    (answered_short start.args.request start.args.machine start.args.words.now start.args.marks.now (well_formed_lem (goal.at.returns-then-is_well_formed c).Then-is_well_formed)
     (sym tested.is_lent_whole.ensures ∙ c.if-is_lent_whole.false))
 
 pub returns : goal.returns

@@ -13,8 +13,8 @@ use Rattle.printer.proofs.write_entries.Goals as goal
 use Rattle.printer.proofs.write_entries.Goals.{Start}
 
 -- What the viewer sees of the entries.
-abbrev bank-seen : Start → ℕ → Seen
-bank-seen start = bank_seen start.args.viewer (lent start.args.values.now start.args.labels.now)
+abbrev bank_seen_lem : Start → ℕ → Seen
+bank_seen_lem start = bank_seen start.args.viewer (lent start.args.values.now start.args.labels.now)
 
 pub loop-k-init : goal.loop-k-init
 unfolding entry_lines
@@ -36,7 +36,7 @@ write_entry-at-requires c =
       arith,
       loop.invariant.1.place,
       c.requires.1,
-      entries_most c.args.section.letter (bank-seen (goal.at.write_entry-at-requires c).Start) 0 loop.k,
+      entries_most c.args.section.letter (bank_seen_lem (goal.at.write_entry-at-requires c).Start) 0 loop.k,
     )
 
 pub overflow_add-k : goal.overflow_add-k
@@ -49,8 +49,8 @@ pub loop-k-preserved : goal.loop-k-preserved
 loop-k-preserved c =
     let loop = c.loop-k in (
       (omega arith, c.write_entry-at.auto.out ∙ loop.invariant.0.1),
-      rw (entries_more c.args.section.letter (bank-seen (goal.at.loop-k-preserved c).Start) loop.k)
-          (placed_then {b = entry_for c.args.section.letter loop.k (bank-seen (goal.at.loop-k-preserved c).Start loop.k)} loop.invariant.1
+      rw (entries_more c.args.section.letter (bank_seen_lem (goal.at.loop-k-preserved c).Start) loop.k)
+          (placed_then {b = entry_for c.args.section.letter loop.k (bank_seen_lem (goal.at.loop-k-preserved c).Start loop.k)} loop.invariant.1
           c.write_entry-at.ensures),
     )
 

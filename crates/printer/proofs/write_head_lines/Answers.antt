@@ -18,18 +18,18 @@ end_line : (c : After-write_line_at-at)
 end_line c = rw c.end_fields-numbers.ensures at c.write_line_at-at.ensures
 
 -- It ends within 128 bytes.
-end-place : (c : After-write_line_at-at) → c.write_line_at-at.result ≤ 128
-end-place c =
+end_place : (c : After-write_line_at-at) → c.write_line_at-at.result ≤ 128
+end_place c =
     omega (arith, (end_line c).place, line_most letter_e (end_fields c.args.control))
 
 pub write_call-at-requires : goal.write_call-at-requires
-write_call-at-requires c = omega (arith, end-place (goal.at.write_call-at-requires c).After-write_line_at-at)
+write_call-at-requires c = omega (arith, end_place (goal.at.write_call-at-requires c).After-write_line_at-at)
 
 pub write_call-requires : goal.write_call-requires
 write_call-requires c =
     omega (
       arith,
-      end-place (goal.at.write_call-requires c).After-write_line_at-at,
+      end_place (goal.at.write_call-requires c).After-write_line_at-at,
       c.write_call-at.ensures.place,
       call_most c.args.control.first,
       call_most c.args.control.second,

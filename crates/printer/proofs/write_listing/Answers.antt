@@ -30,8 +30,8 @@ sixteen start =
     record { enough = omega arith; labelled = omega (arith, marked start); most = omega arith }
 
 -- They end within 342 bytes.
-head-place : (c : After-write_head-at) → c.write_head-at.result ≤ 342
-head-place c =
+head_place : (c : After-write_head-at) → c.write_head-at.result ≤ 342
+head_place c =
     omega (
       arith,
       c.write_head-at.ensures.place,
@@ -43,7 +43,7 @@ slice_bounds-write_entries-end-2 c = sym (marked (goal.at.slice_bounds-write_ent
 
 pub write_entries-at-requires : goal.write_entries-at-requires
 write_entries-at-requires c =
-    (sixteen (goal.at.write_entries-at-requires c).Start, omega (arith, head-place (goal.at.write_entries-at-requires c).After-write_head-at))
+    (sixteen (goal.at.write_entries-at-requires c).Start, omega (arith, head_place (goal.at.write_entries-at-requires c).After-write_head-at))
 
 pub write_entries-requires : goal.write_entries-requires
 write_entries-requires c =
@@ -51,7 +51,7 @@ write_entries-requires c =
       start.requires,
       omega (
         arith,
-        head-place (goal.at.write_entries-requires c).After-write_head-at,
+        head_place (goal.at.write_entries-requires c).After-write_head-at,
         c.write_entries-at.ensures.place,
         entries_most letter_r (bank_seen start.args.viewer (state start).registers) 0 register_count,
         start.requires.most,

@@ -33,8 +33,8 @@ returns-in_default c =
     (field_of_part xs loop.loop-i.at _ _ c.read_field.ensures c.in_default.is))
 
 -- Where a field was read: the loop before it, the number and its bytes, and the fields read with it.
-abbrev loop-at : In-Value → At-loop-i
-loop-at c = (goal.at.In-Value c).At-loop-i
+abbrev loop_at : In-Value → At-loop-i
+loop_at c = (goal.at.In-Value c).At-loop-i
 
 abbrev value : In-Value → ℕ
 value c = c.in-Value.value
@@ -43,11 +43,11 @@ abbrev bytes : In-Value → ℕ
 bytes c = c.in-Value.bytes
 
 one_more : (c : In-Value)
-    → FieldsRead (loop-at c).args.text.now (set (loop-at c).loop-i.numbers (loop-at c).loop-i.i (value c))
-    ((loop-at c).loop-i.at + bytes c) ((loop-at c).loop-i.i + 1)
+    → FieldsRead (loop_at c).args.text.now (set (loop_at c).loop-i.numbers (loop_at c).loop-i.i (value c))
+    ((loop_at c).loop-i.at + bytes c) ((loop_at c).loop-i.i + 1)
 one_more c =
-    let l = (loop-at c).loop-i in
-    let xs = (loop-at c).args.text.now in
+    let l = (loop_at c).loop-i in
+    let xs = (loop_at c).args.text.now in
     fields_more xs l.numbers l.at l.i l.invariant.0 (value c) (bytes c) (omega arith)
     (field_of_part xs l.at _ _ c.read_field.ensures c.in-Value.is)
 
@@ -61,7 +61,7 @@ pub loop-i-smaller : goal.loop-i-smaller
 loop-i-smaller c = simp length-set (omega arith)
 
 pub loop-i-preserved : goal.loop-i-preserved
-loop-i-preserved c = (one_more c, simp length-set (loop-at c).loop-i.invariant.1)
+loop-i-preserved c = (one_more c, simp length-set (loop_at c).loop-i.invariant.1)
 
 pub shape_of-numbers : goal.shape_of-numbers
 shape_of-numbers c = c.loop-i.invariant.1

@@ -12,13 +12,13 @@ use Rattle.verdicts.proofs.gate_verdict.Goals as goal
 use Rattle.verdicts.proofs.gate_verdict.Goals.{Else-not-gate_in_range, Else-not-is_in_order}
 
 -- Its kind is in order.
-kind-passes : (c : Else-not-is_in_order) → in_order c.args.last GateLine ≡ true
-kind-passes c = passes _ _ c.is_in_order.ensures c.if-not-is_in_order.false
+kind_passes : (c : Else-not-is_in_order) → in_order c.args.last GateLine ≡ true
+kind_passes c = passes _ _ c.is_in_order.ensures c.if-not-is_in_order.false
 
 -- So are its numbers.
-range-passes : (c : Else-not-gate_in_range) → (let args = c.args in
+range_passes : (c : Else-not-gate_in_range) → (let args = c.args in
     gate_in_range args.count args.pc args.p args.t ≡ true)
-range-passes c = passes _ _ c.gate_in_range.ensures c.if-not-gate_in_range.false
+range_passes c = passes _ _ c.gate_in_range.ensures c.if-not-gate_in_range.false
 
 pub returns-then-not-is_in_order : goal.returns-then-not-is_in_order
 unfolding first_refusal
@@ -26,24 +26,24 @@ returns-then-not-is_in_order c = rw (fails _ _ c.is_in_order.ensures c.if-not-is
 
 pub returns-then-not-gate_in_range : goal.returns-then-not-gate_in_range
 unfolding first_refusal
-returns-then-not-gate_in_range c = rw (kind-passes (goal.at.returns-then-not-gate_in_range c).Else-not-is_in_order, fails _ _ c.gate_in_range.ensures c.if-not-gate_in_range.true)
+returns-then-not-gate_in_range c = rw (kind_passes (goal.at.returns-then-not-gate_in_range c).Else-not-is_in_order, fails _ _ c.gate_in_range.ensures c.if-not-gate_in_range.true)
 
 pub overflow_cast-p : goal.overflow_cast-p
-overflow_cast-p c = omega (arith, gate_range _ _ _ _ (range-passes c))
+overflow_cast-p c = omega (arith, gate_range _ _ _ _ (range_passes c))
 
 pub overflow_cast-t : goal.overflow_cast-t
-overflow_cast-t c = omega (arith, gate_range _ _ _ _ (range-passes c))
+overflow_cast-t c = omega (arith, gate_range _ _ _ _ (range_passes c))
 
 pub returns-then-not-is_valid_pair : goal.returns-then-not-is_valid_pair
 unfolding first_refusal
 returns-then-not-is_valid_pair c =
     let range = c in
     rw
-    (kind-passes (goal.at.returns-then-not-is_valid_pair c).Else-not-is_in_order, range-passes (goal.at.returns-then-not-is_valid_pair c).Else-not-gate_in_range, fails _ _ c.is_valid_pair.ensures c.if-not-is_valid_pair.true)
+    (kind_passes (goal.at.returns-then-not-is_valid_pair c).Else-not-is_in_order, range_passes (goal.at.returns-then-not-is_valid_pair c).Else-not-gate_in_range, fails _ _ c.is_valid_pair.ensures c.if-not-is_valid_pair.true)
 
 pub returns : goal.returns
 unfolding first_refusal
 returns c =
     let range = c in
     rw
-    (kind-passes (goal.at.returns c).Else-not-is_in_order, range-passes (goal.at.returns c).Else-not-gate_in_range, passes _ _ c.is_valid_pair.ensures c.if-not-is_valid_pair.false)
+    (kind_passes (goal.at.returns c).Else-not-is_in_order, range_passes (goal.at.returns c).Else-not-gate_in_range, passes _ _ c.is_valid_pair.ensures c.if-not-is_valid_pair.false)

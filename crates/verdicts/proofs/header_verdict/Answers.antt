@@ -13,28 +13,28 @@ use Rattle.verdicts.proofs.header_verdict.Goals as goal
 use Rattle.verdicts.proofs.header_verdict.Goals.{Else-not-header_in_range, Else-not-is_valid_pair}
 
 -- Its numbers are in their ranges.
-range-passes : (c : Else-not-header_in_range) → header_in_range c.args.header ≡ true
-range-passes c = passes _ _ c.header_in_range.ensures c.if-not-header_in_range.false
+range_passes : (c : Else-not-header_in_range) → header_in_range c.args.header ≡ true
+range_passes c = passes _ _ c.header_in_range.ensures c.if-not-header_in_range.false
 
 -- Its pair is valid.
-pair-passes : (c : Else-not-is_valid_pair) → (let header = c.args.header in
+pair_passes : (c : Else-not-is_valid_pair) → (let header = c.args.header in
     valid_pair header.p header.t ≡ true)
-pair-passes c = passes _ _ c.is_valid_pair.ensures c.if-not-is_valid_pair.false
+pair_passes c = passes _ _ c.is_valid_pair.ensures c.if-not-is_valid_pair.false
 
 pub returns-then-not-header_in_range : goal.returns-then-not-header_in_range
 unfolding header_tests first_refusal
 returns-then-not-header_in_range c = λ m w l. rw (fails _ _ c.header_in_range.ensures c.if-not-header_in_range.true)
 
 pub overflow_cast-header : goal.overflow_cast-header
-overflow_cast-header c = omega (arith, header_range _ (range-passes (goal.at.overflow_cast-header c).Else-not-header_in_range))
+overflow_cast-header c = omega (arith, header_range _ (range_passes (goal.at.overflow_cast-header c).Else-not-header_in_range))
 
 pub overflow_cast-header-2 : goal.overflow_cast-header-2
-overflow_cast-header-2 c = omega (arith, header_range _ (range-passes (goal.at.overflow_cast-header-2 c).Else-not-header_in_range))
+overflow_cast-header-2 c = omega (arith, header_range _ (range_passes (goal.at.overflow_cast-header-2 c).Else-not-header_in_range))
 
 pub returns-then-not-is_valid_pair : goal.returns-then-not-is_valid_pair
 unfolding header_tests first_refusal
 returns-then-not-is_valid_pair c = λ m w l.
-    rw (range-passes (goal.at.returns-then-not-is_valid_pair c).Else-not-header_in_range, fails _ _ c.is_valid_pair.ensures c.if-not-is_valid_pair.true)
+    rw (range_passes (goal.at.returns-then-not-is_valid_pair c).Else-not-header_in_range, fails _ _ c.is_valid_pair.ensures c.if-not-is_valid_pair.true)
 
 pub returns-then-not-lent_whole : goal.returns-then-not-lent_whole
 unfolding header_tests first_refusal lent_whole
@@ -43,8 +43,8 @@ returns-then-not-lent_whole c = λ m w l.
     let range = pair in
     let args = range.args in
     rw (
-      range-passes (goal.at.returns-then-not-lent_whole c).Else-not-header_in_range,
-      pair-passes (goal.at.returns-then-not-lent_whole c).Else-not-is_valid_pair,
+      range_passes (goal.at.returns-then-not-lent_whole c).Else-not-header_in_range,
+      pair_passes (goal.at.returns-then-not-lent_whole c).Else-not-is_valid_pair,
       w,
       l,
       c.if-not-lent_whole.true,
@@ -57,8 +57,8 @@ returns c = λ m w l.
     let range = pair in
     let args = range.args in
     rw (
-      range-passes (goal.at.returns c).Else-not-header_in_range,
-      pair-passes (goal.at.returns c).Else-not-is_valid_pair,
+      range_passes (goal.at.returns c).Else-not-header_in_range,
+      pair_passes (goal.at.returns c).Else-not-is_valid_pair,
       w,
       l,
       c.if-not-lent_whole.false,

@@ -27,8 +27,8 @@ pub label_of-timing-requires : goal.label_of-timing-requires
 label_of-timing-requires c = (pair_below _ _ _ _ _ c.new_pair_allowed.ensures c.if-new_pair_allowed.true).1
 
 -- The newest call is no upcall.
-no-upcall : (c : After-may_upcall) → is_upcall (call_of c.args.live.newest) ≡ false
-no-upcall c = sym c.is_upcall.ensures ∙ c.if-is_upcall.false
+no_upcall : (c : After-may_upcall) → is_upcall (call_of c.args.live.newest) ≡ false
+no_upcall c = sym c.is_upcall.ensures ∙ c.if-is_upcall.false
 
 -- The row then, where the values are labels of a valid pair and may be read: its check is what the code tests last.
 row_is : (c : After-may_upcall) (fixed : Fixed) (words marks : List ℕ)
@@ -43,7 +43,7 @@ unfolding table may_upcall new_pair_allowed value_at label_at
 row_is c fixed words marks =
     rw (
       in_upcall_lem _,
-      no-upcall c,
+      no_upcall c,
       ← c.a_of-a.ensures.0,
       ← c.b_of-b.ensures.0,
       ← c.c_of-c.ensures.0,
@@ -57,7 +57,7 @@ row_is c fixed words marks =
 
 pub returns-then-may_upcall : goal.returns-then-may_upcall
 returns-then-may_upcall c =
-    (λ fixed words marks. rw (row_is (goal.at.returns-then-may_upcall c).After-may_upcall fixed words marks, c.if-may_upcall.true, c.wide.ensures.0), λ p. (p, no-upcall (goal.at.returns-then-may_upcall c).After-may_upcall, omega arith))
+    (λ fixed words marks. rw (row_is (goal.at.returns-then-may_upcall c).After-may_upcall fixed words marks, c.if-may_upcall.true, c.wide.ensures.0), λ p. (p, no_upcall (goal.at.returns-then-may_upcall c).After-may_upcall, omega arith))
 
 pub returns-else-may_upcall : goal.returns-else-may_upcall
 returns-else-may_upcall c = (λ fixed words marks. rw (row_is (goal.at.returns-else-may_upcall c).After-may_upcall fixed words marks, c.if-may_upcall.false), λ p. p)

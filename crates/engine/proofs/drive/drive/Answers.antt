@@ -150,36 +150,36 @@ module _ (c : After-control_after-live) where
         c.if-there-place.false
 
     -- The measure falls.
-    fewer-now : ticks_left (started test).args.fixed.limit c.control_after-live.result < ticks_left (started test).args.fixed.limit test.loop-live.live
-    fewer-now =
+    fewer_now : ticks_left (started test).args.fixed.limit c.control_after-live.result < ticks_left (started test).args.fixed.limit test.loop-live.live
+    fewer_now =
         fewer (went test p q) (runs made) (due made p q) (context there) (place there) there.sprint-pause.ensures c.moved-live.ensures
         {decision = (stepped c).decide-decision.result} (record { is = (stepped c).decide-decision.ensures.0; applies = (stepped c).decide-decision.ensures.1 })
         q.tick_is c.is_barred.ensures c.if-is_barred.false first c.write_back.ensures c.control_after-live.ensures
 
     -- What holds at the loop's test again.
-    went-now : {turned : List ℕ} → (is_once p || is_stride p) ≡ false → Mirrors c.write_back.new.labels turned
+    went_now : {turned : List ℕ} → (is_once p || is_stride p) ≡ false → Mirrors c.write_back.new.labels turned
         → Went (started test).args.fixed (task_at test p) (started test).args.values.now (started test).args.labels.now
         (started test).args.words.now (started test).args.marks.now c.control_after-live.result c.write_back.new.values
         c.write_back.new.labels turned there.sprint-pause.new.words
-    went-now more mirrors =
+    went_now more mirrors =
         went_more (went test p q) (runs made) (due made p q) (context there) (place there) there.sprint-pause.ensures c.moved-live.ensures
         {decision = (stepped c).decide-decision.result} (record { is = (stepped c).decide-decision.ensures.0; applies = (stepped c).decide-decision.ensures.1 })
         q.tick_is c.is_barred.ensures c.if-is_barred.false first c.write_back.ensures c.control_after-live.ensures
         more there.sprint-pause.auto.words mirrors
 
     -- Where no label was set, the turned ones are still those of the registers.
-    mirrors-now : sets_label (stepped c).decide-decision.result ≡ false → Mirrors c.write_back.new.labels test.loop-live.turned
-    mirrors-now e =
+    mirrors_now : sets_label (stepped c).decide-decision.result ≡ false → Mirrors c.write_back.new.labels test.loop-live.turned
+    mirrors_now e =
         still_mirrors (went test p q) (runs made) (due made p q) (context there) (place there) there.sprint-pause.ensures c.moved-live.ensures
         {decision = (stepped c).decide-decision.result} (record { is = (stepped c).decide-decision.ensures.0; applies = (stepped c).decide-decision.ensures.1 })
         q.tick_is c.is_barred.ensures c.if-is_barred.false first c.write_back.ensures c.control_after-live.ensures e
 
     -- It was all that was asked for.
-    single-now : {r : Control} → (is_once p || is_stride p) ≡ true → r ≡ control_of c.control_after-live.result
+    single_now : {r : Control} → (is_once p || is_stride p) ≡ true → r ≡ control_of c.control_after-live.result
         → Driven (started test).args.fixed (task_at test p) (started test).args.values.now (started test).args.labels.now
         (started test).args.words.now (started test).args.marks.now r c.write_back.new.values
         c.write_back.new.labels there.sprint-pause.new.words
-    single-now one e =
+    single_now one e =
         went_single (went test p q) (runs made) (due made p q) (context there) (place there) there.sprint-pause.ensures c.moved-live.ensures
         {decision = (stepped c).decide-decision.result} (record { is = (stepped c).decide-decision.ensures.0; applies = (stepped c).decide-decision.ensures.1 })
         q.tick_is c.is_barred.ensures c.if-is_barred.false first c.write_back.ensures c.control_after-live.ensures
@@ -258,23 +258,23 @@ pub returns-then-single : goal.returns-then-single
 returns-then-single c =
     let k = (goal.at.returns-then-single c).After-control_after-live in
     let l = test k in
-    driven l (single-now k _ (asked l) (sym (asked l).single_is ∙ c.if-single.true) c.control_of-then-single.ensures)
+    driven l (single_now k _ (asked l) (sym (asked l).single_is ∙ c.if-single.true) c.control_of-then-single.ensures)
 
 pub loop-live-smaller-then-sets_label : goal.loop-live-smaller-then-sets_label
-loop-live-smaller-then-sets_label c = let k = (goal.at.loop-live-smaller-then-sets_label c).After-control_after-live in fewer-now k _ (asked (test k))
+loop-live-smaller-then-sets_label c = let k = (goal.at.loop-live-smaller-then-sets_label c).After-control_after-live in fewer_now k _ (asked (test k))
 
 pub loop-live-preserved-then-sets_label : goal.loop-live-preserved-then-sets_label
 loop-live-preserved-then-sets_label c =
     let k = (goal.at.loop-live-preserved-then-sets_label c).After-control_after-live in
-    λ p q. went-now k p q (sym q.single_is ∙ c.if-single.false) c.turn-turned-then-sets_label.ensures
+    λ p q. went_now k p q (sym q.single_is ∙ c.if-single.false) c.turn-turned-then-sets_label.ensures
 
 pub loop-live-smaller : goal.loop-live-smaller
-loop-live-smaller c = let k = (goal.at.loop-live-smaller c).After-control_after-live in fewer-now k _ (asked (test k))
+loop-live-smaller c = let k = (goal.at.loop-live-smaller c).After-control_after-live in fewer_now k _ (asked (test k))
 
 pub loop-live-preserved : goal.loop-live-preserved
 loop-live-preserved c =
     let k = (goal.at.loop-live-preserved c).After-control_after-live in
-    λ p q. went-now k p q (sym q.single_is ∙ c.if-single.false) (mirrors-now k p q (sym c.sets_label.ensures ∙ c.if-sets_label.false))
+    λ p q. went_now k p q (sym q.single_is ∙ c.if-single.false) (mirrors_now k p q (sym c.sets_label.ensures ∙ c.if-sets_label.false))
 
 pub shape_of-words : goal.shape_of-words
 shape_of-words c = let l = (goal.at.shape_of-words c).At-loop-live in (went l _ (asked l)).long

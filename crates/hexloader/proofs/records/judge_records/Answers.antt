@@ -21,18 +21,18 @@ pub slice_bounds-rest-start : goal.slice_bounds-rest-start
 slice_bounds-rest-start c = omega arith
 
 -- The record that was read.
-record-at : (c : After-read_record-read)
+record_at : (c : After-read_record-read)
     → At c.args.hex.now c.loop-at.at c.read_record-read.result
-record-at c =
+record_at c =
     read_at c.args.hex.now c.loop-at.at c.read_record-read.result c.loop-at-test.true
     c.read_record-read.ensures
 
 pub overflow_add-at : goal.overflow_add-at
-overflow_add-at c = omega (arith, (record-at (goal.at.overflow_add-at c).After-read_record-read).within)
+overflow_add-at c = omega (arith, (record_at (goal.at.overflow_add-at c).After-read_record-read).within)
 
 pub judge_closing-requires : goal.judge_closing-requires
 judge_closing-requires c =
-    omega (arith, (record-at (goal.at.judge_closing-requires c).After-read_record-read).within, c.loop-at.invariant.counted, c.loop-at.invariant.within)
+    omega (arith, (record_at (goal.at.judge_closing-requires c).After-read_record-read).within, c.loop-at.invariant.counted, c.loop-at.invariant.within)
 
 pub shape_of-places-in_default : goal.shape_of-places-in_default
 shape_of-places-in_default c = c.loop-at.invariant.whole
@@ -41,7 +41,7 @@ pub returns-in_default : goal.returns-in_default
 returns-in_default c =
     let last = c.loop-at.at + c.read_record-read.result.next in
     rw c.judge_closing.ensures
-    (judging_closed c.loop-at.invariant (record-at (goal.at.returns-in_default c).After-read_record-read) (eqb last (length c.args.hex.now)) (eqb-true _ _)
+    (judging_closed c.loop-at.invariant (record_at (goal.at.returns-in_default c).After-read_record-read) (eqb last (length c.args.hex.now)) (eqb-true _ _)
     (eqb-false _ _)
     c.in_default.not-Data)
 
@@ -49,7 +49,7 @@ returns-in_default c =
 
 pub give_bytes-requires : goal.give_bytes-requires
 give_bytes-requires c =
-    rw (part c.loop-at.at c.args.hex.now) (data_fits (record-at (goal.at.give_bytes-requires c).After-read_record-read) c.in-Data.is)
+    rw (part c.loop-at.at c.args.hex.now) (data_fits (record_at (goal.at.give_bytes-requires c).After-read_record-read) c.in-Data.is)
 
 -- They are given, or one can't be.
 given : (c : After-give_bytes)
@@ -66,12 +66,12 @@ kept c = c.give_bytes.auto.places
 
 -- The record, seen from where its bytes are given, lies in the text and takes two bytes of it at least.
 moves : (c : After-give_bytes) → 2 ≤ c.read_record-read.result.next
-moves c = data_moves (record-at (goal.at.After-give_bytes c).After-read_record-read) c.in-Data.is
+moves c = data_moves (record_at (goal.at.After-give_bytes c).After-read_record-read) c.in-Data.is
 
 within : (c : After-give_bytes)
     → c.loop-at.at + c.read_record-read.result.next
     ≤ length c.args.hex.now
-within c = (record-at (goal.at.After-give_bytes c).After-read_record-read).within
+within c = (record_at (goal.at.After-give_bytes c).After-read_record-read).within
 
 pub overflow_add-at-then-give_bytes : goal.overflow_add-at-then-give_bytes
 overflow_add-at-then-give_bytes c = omega (arith, within (goal.at.overflow_add-at-then-give_bytes c).After-give_bytes)
@@ -87,7 +87,7 @@ loop-at-smaller c =
 pub loop-at-preserved : goal.loop-at-preserved
 loop-at-preserved c =
     let read = (goal.at.loop-at-preserved c).After-read_record-read in
-    judging_more c.loop-at.invariant (record-at read) c.in-Data.is _
+    judging_more c.loop-at.invariant (record_at read) c.in-Data.is _
     (rw c.if-give_bytes.true at (given (goal.at.loop-at-preserved c).After-give_bytes)) (kept (goal.at.loop-at-preserved c).After-give_bytes)
 
 pub shape_of-places-else-give_bytes : goal.shape_of-places-else-give_bytes
@@ -97,7 +97,7 @@ shape_of-places-else-give_bytes c =
 pub returns-else-give_bytes : goal.returns-else-give_bytes
 returns-else-give_bytes c =
     let read = (goal.at.returns-else-give_bytes c).After-read_record-read in
-    judging_refused c.loop-at.invariant (record-at read) c.in-Data.is
+    judging_refused c.loop-at.invariant (record_at read) c.in-Data.is
     c.give_bytes.new.places
     (rw c.if-give_bytes.false at (given (goal.at.returns-else-give_bytes c).After-give_bytes))
 

@@ -5,11 +5,11 @@ use mathlib.Core.Bool.{Bool, ◌||◌}
 use Rattle.parts.proofs.live.control_of.Goals as goal
 
 -- Whether a frame is empty, by the answers of the code.
-lone-by : {a b x y : Bool} → x ≡ a → y ≡ b → (a || b) ≡ (x || y)
-lone-by e f = rw (e, f)
+lone_by : {a b x y : Bool} → x ≡ a → y ≡ b → (a || b) ≡ (x || y)
+lone_by e f = rw (e, f)
 
 pub returns-then-is_empty : goal.returns-then-is_empty
-returns-then-is_empty c = rw (lone-by c.is_empty.ensures c.is_empty-2.ensures ∙ c.if-is_empty.true, c.call_of-call.ensures)
+returns-then-is_empty c = rw (lone_by c.is_empty.ensures c.is_empty-2.ensures ∙ c.if-is_empty.true, c.call_of-call.ensures)
 
 pub returns : goal.returns
-returns c = rw (lone-by c.is_empty.ensures c.is_empty-2.ensures ∙ c.if-is_empty.false, c.call_of-call.ensures, c.call_of-first.ensures)
+returns c = rw (lone_by c.is_empty.ensures c.is_empty-2.ensures ∙ c.if-is_empty.false, c.call_of-call.ensures, c.call_of-first.ensures)

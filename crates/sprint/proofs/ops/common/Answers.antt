@@ -45,23 +45,23 @@ fields : (c : After-op_of)
 fields c = record { ra = c.a_of-a.ensures.0; rb = c.b_of-b.ensures.0 }
 
 -- Its op, where that has the number k.
-op-is : (c : After-op_of) {f : Fetched} {k : ℕ} {op : Op} → f ≡ known (word c) (decode (op_field (word c)))
+op_is : (c : After-op_of) {f : Fetched} {k : ℕ} {op : Op} → f ≡ known (word c) (decode (op_field (word c)))
     → c.op_of.result ≡ k → decode k ≡ some op → f ≡ fetched (word c) op
-op-is c f e d = op_of (word c) f c.op_of.ensures e d
+op_is c f e d = op_of (word c) f c.op_of.ensures e d
 
 -- ---- bounds of labels, which are bytes
 
 -- The pc label.
-pc-below : (c : After-op_of) → c.args.context.pair.pc < label_count
-pc-below c = search rules
+pc_below : (c : After-op_of) → c.args.context.pair.pc < label_count
+pc_below c = search rules
 
 -- The timing label.
-timing-below : (c : After-op_of) → c.args.context.pair.timing < label_count
-timing-below c = search rules
+timing_below : (c : After-op_of) → c.args.context.pair.timing < label_count
+timing_below c = search rules
 
 -- The label of a word.
-mark-below : (c : After-op_of) (i : ℕ) → get_or c.args.marks.now i 0 < label_count
-mark-below c i = omega (arith, c.shared_slice_known-1.given i)
+mark_below : (c : After-op_of) (i : ℕ) → get_or c.args.marks.now i 0 < label_count
+mark_below c i = omega (arith, c.shared_slice_known-1.given i)
 
 -- ---- an arithmetic op
 
@@ -73,7 +73,7 @@ combined : (c : After-op_of) {k : ℕ} {o : Arithmetic} {r : Turn} {values' : Li
     c.args.words.now c.args.marks.now r values' c.args.words.now
     × Forward c.args.spot r
 combined c {o = o} e d h = (
-  λ s labels m l t f. arithmetic_turn (told c s labels m l t) (timing-below c) (op-is c f e d) h,
+  λ s labels m l t f. arithmetic_turn (told c s labels m l t) (timing_below c) (op_is c f e d) h,
   timed_forward c.args.spot _ _ (ticks_long o _ _) (assigned_turn _ _ _ _ _ _ h),
 )
 
@@ -90,7 +90,7 @@ pub returns-in-1 : goal.returns-in-1
 unfolding decode
 returns-in-1 c =
     let at = c in (
-      λ s labels m l t f. immediate_turn (told (goal.at.returns-in-1 c).After-op_of s labels m l t) (op-is (goal.at.returns-in-1 c).After-op_of f c.in-1.is refl) c.immediate.ensures,
+      λ s labels m l t f. immediate_turn (told (goal.at.returns-in-1 c).After-op_of s labels m l t) (op_is (goal.at.returns-in-1 c).After-op_of f c.in-1.is refl) c.immediate.ensures,
       timed_forward c.args.spot 1 _ (lit≤ tt) (assigned_turn _ _ _ _ _ _ c.immediate.ensures),
     )
 
@@ -126,7 +126,7 @@ pub returns-in-9 : goal.returns-in-9
 unfolding decode
 returns-in-9 c =
     let at = c in (
-      λ s labels m l t f. load_turn (told (goal.at.returns-in-9 c).After-op_of s labels m l t) (op-is (goal.at.returns-in-9 c).After-op_of f c.in-9.is refl) c.load.ensures,
+      λ s labels m l t f. load_turn (told (goal.at.returns-in-9 c).After-op_of s labels m l t) (op_is (goal.at.returns-in-9 c).After-op_of f c.in-9.is refl) c.load.ensures,
       timed_forward c.args.spot 3 _ (lit≤ tt) c.load.ensures.turn,
     )
 
@@ -134,7 +134,7 @@ pub returns-in-10 : goal.returns-in-10
 unfolding decode
 returns-in-10 c =
     let at = c in (
-      λ s labels m l t f. store_turn (told (goal.at.returns-in-10 c).After-op_of s labels m l t) (op-is (goal.at.returns-in-10 c).After-op_of f c.in-10.is refl) (mark-below (goal.at.returns-in-10 c).After-op_of _) c.store.ensures,
+      λ s labels m l t f. store_turn (told (goal.at.returns-in-10 c).After-op_of s labels m l t) (op_is (goal.at.returns-in-10 c).After-op_of f c.in-10.is refl) (mark_below (goal.at.returns-in-10 c).After-op_of _) c.store.ensures,
       timed_forward c.args.spot 3 _ (lit≤ tt) c.store.ensures.turn,
     )
 
@@ -142,7 +142,7 @@ pub returns-in-11 : goal.returns-in-11
 unfolding decode
 returns-in-11 c =
     let at = c in (
-      λ s labels m l t f. branch_turn (told (goal.at.returns-in-11 c).After-op_of s labels m l t) (pc-below (goal.at.returns-in-11 c).After-op_of) (op-is (goal.at.returns-in-11 c).After-op_of f c.in-11.is refl) (fields (goal.at.returns-in-11 c).After-op_of) c.go.ensures c.may_go-ok.ensures c.lacking.ensures refl c.n_of.ensures,
+      λ s labels m l t f. branch_turn (told (goal.at.returns-in-11 c).After-op_of s labels m l t) (pc_below (goal.at.returns-in-11 c).After-op_of) (op_is (goal.at.returns-in-11 c).After-op_of f c.in-11.is refl) (fields (goal.at.returns-in-11 c).After-op_of) c.go.ensures c.may_go-ok.ensures c.lacking.ensures refl c.n_of.ensures,
       gone_forward c.args.spot _ _ _ _ c.go.ensures,
     )
 
@@ -150,7 +150,7 @@ pub returns-in-12 : goal.returns-in-12
 unfolding decode
 returns-in-12 c =
     let at = c in (
-      λ s labels m l t f. branch_turn (told (goal.at.returns-in-12 c).After-op_of s labels m l t) (pc-below (goal.at.returns-in-12 c).After-op_of) (op-is (goal.at.returns-in-12 c).After-op_of f c.in-12.is refl) (fields (goal.at.returns-in-12 c).After-op_of) c.go-in-12.ensures c.may_go-ok-in-12.ensures c.lacking-in-12.ensures refl c.n_of-in-12.ensures,
+      λ s labels m l t f. branch_turn (told (goal.at.returns-in-12 c).After-op_of s labels m l t) (pc_below (goal.at.returns-in-12 c).After-op_of) (op_is (goal.at.returns-in-12 c).After-op_of f c.in-12.is refl) (fields (goal.at.returns-in-12 c).After-op_of) c.go-in-12.ensures c.may_go-ok-in-12.ensures c.lacking-in-12.ensures refl c.n_of-in-12.ensures,
       gone_forward c.args.spot _ _ _ _ c.go-in-12.ensures,
     )
 
@@ -158,7 +158,7 @@ pub returns-in-13 : goal.returns-in-13
 unfolding decode
 returns-in-13 c =
     let at = c in (
-      λ s labels m l t f. jump_turn (told (goal.at.returns-in-13 c).After-op_of s labels m l t) (pc-below (goal.at.returns-in-13 c).After-op_of) (op-is (goal.at.returns-in-13 c).After-op_of f c.in-13.is refl) (fields (goal.at.returns-in-13 c).After-op_of) c.go-in-13.ensures c.may_go-ok-in-13.ensures c.lacking-in-13.ensures,
+      λ s labels m l t f. jump_turn (told (goal.at.returns-in-13 c).After-op_of s labels m l t) (pc_below (goal.at.returns-in-13 c).After-op_of) (op_is (goal.at.returns-in-13 c).After-op_of f c.in-13.is refl) (fields (goal.at.returns-in-13 c).After-op_of) c.go-in-13.ensures c.may_go-ok-in-13.ensures c.lacking-in-13.ensures,
       gone_forward c.args.spot _ _ _ _ c.go-in-13.ensures,
     )
 
@@ -166,7 +166,7 @@ pub returns-in-14 : goal.returns-in-14
 unfolding decode
 returns-in-14 c =
     let at = c in (
-      λ s labels m l t f. clock_turn (told (goal.at.returns-in-14 c).After-op_of s labels m l t) (op-is (goal.at.returns-in-14 c).After-op_of f c.in-14.is refl) c.read_clock.ensures,
+      λ s labels m l t f. clock_turn (told (goal.at.returns-in-14 c).After-op_of s labels m l t) (op_is (goal.at.returns-in-14 c).After-op_of f c.in-14.is refl) c.read_clock.ensures,
       timed_forward c.args.spot 1 _ (lit≤ tt) (assigned_turn _ _ _ _ _ _ c.read_clock.ensures.assigned),
     )
 
