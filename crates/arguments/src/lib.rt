@@ -7,7 +7,6 @@ ghost use Rattle.reader.specs.Alone.{number_alone};
 ghost use Rattle.arguments.specs.Written.{label_alone};
 
 use labels::{Bits, LABEL_COUNT};
-use model::format::Number;
 use reader::read_alone;
 use std::env::FillError;
 use std::rt::Env;
@@ -23,12 +22,12 @@ pub enum Named {
 }
 
 // The number that argument k writes as a text does: one to ten digits without leading zeros, and nothing behind them.
-pub fn number_argument<E: Env>(env: &E, k: usize) -> Number
+pub fn number_argument<E: Env>(env: &E, k: usize) -> Option<u64>
     ensures { (word : List ℕ) × (result ≡ number_alone word) }
 {
     let mut word = [0u8; MOST_BYTES];
     let Ok(length) = env.arg(k, &mut word) else {
-        return Number::Bad;
+        return None;
     };
     read_alone(&word[..length])
 }
@@ -37,7 +36,7 @@ pub fn number_argument<E: Env>(env: &E, k: usize) -> Number
 pub fn label_argument<E: Env>(env: &E, k: usize) -> Named
     ensures { (word : List ℕ) × (result ≡ label_alone word) }
 {
-    let Number::Value(value, _) = number_argument(env, k) else {
+    let Some(value) = number_argument(env, k) else {
         return Named::Nothing;
     };
     if value < LABEL_COUNT as u64 {

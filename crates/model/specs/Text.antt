@@ -1,9 +1,8 @@
 -- A text read line by line: document 01, "Text", its first paragraph. Lines end in LF, comma-parted, no quoting, one to
 -- ten digits without leading zeros. A text is the list of its bytes.
 -- Assumes nothing.
-use Rattle.std.specs.Prelude.{ℕ, zero, suc, ◌+◌, ◌-◌, ◌*◌, Bool, not, ◌&&◌, ◌||◌, cond, List, [], ◌∷◌, ◌++◌, leb, eqb, length, drop, get_or}
+use Rattle.std.specs.Prelude.{ℕ, zero, suc, ◌+◌, ◌-◌, ◌*◌, Bool, not, ◌&&◌, ◌||◌, cond, Option, Some, None, List, [], ◌∷◌, ◌++◌, leb, eqb, length, drop, get_or}
 use Rattle.model.specs.declared.format.Number.{Number}
-use Rattle.model.specs.declared.format.Number.TheVariants.{Value, Bad as BadNumber}
 use Rattle.model.specs.declared.format.Line.{Line}
 use Rattle.model.specs.declared.format.Line.TheVariants.{M, G, R, W, Malformed}
 use Rattle.model.specs.declared.format.Read.{Read}
@@ -32,34 +31,36 @@ well_written ds =
     && (eqb (length ds) 1 || not (eqb (get_or ds 0 digit_zero) digit_zero))
 
 -- The number that a text begins with.
-unfoldable pub number : List ℕ → Number
-number xs = cond (well_written (digits xs)) (Value (decimal_from 0 (digits xs)) (length (digits xs) + 1)) BadNumber
+unfoldable pub number : List ℕ → Option Number
+number xs =
+    cond (well_written (digits xs))
+    (Some (record { value = decimal_from 0 (digits xs); length = length (digits xs) + 1 })) None
 
 -- The field that a text begins with: a comma and a number.
-unfoldable pub field : List ℕ → Number
-field [] = BadNumber
-field (b ∷ xs) = cond (eqb b comma) (number xs) BadNumber
+unfoldable pub field : List ℕ → Option Number
+field [] = None
+field (b ∷ xs) = cond (eqb b comma) (number xs) None
 
 -- ---- fields
 
--- Some fields in a row: their numbers, and how many bytes they take; or one of them is bad.
-pub data Fields : Type 0 where
-  Values : List ℕ → ℕ → Fields
-  BadFields : Fields
+-- Some fields in a row: their numbers, and how many bytes they take.
+pub record Fields : Type 0 where
+  pub numbers : List ℕ
+  pub bytes : ℕ
 
--- One field more, behind those with the numbers ns in n bytes.
-abbrev pub with_field : List ℕ → ℕ → Number → Fields
-with_field ns n (Value v k) = Values (ns ++ (v ∷ [])) (n + k)
-with_field ns n BadNumber = BadFields
+-- One field more, behind those before it.
+abbrev pub with_field : Fields → Option Number → Option Fields
+with_field fs (Some n) = Some (record { numbers = fs.numbers ++ (n.value ∷ []); bytes = fs.bytes + n.length })
+with_field fs None = None
 
 -- The field of the text behind the fields before it.
-abbrev pub next_field : List ℕ → Fields → Fields
-next_field xs (Values ns n) = with_field ns n (field (drop n xs))
-next_field xs BadFields = BadFields
+abbrev pub next_field : List ℕ → Option Fields → Option Fields
+next_field xs (Some fs) = with_field fs (field (drop fs.bytes xs))
+next_field xs None = None
 
 -- So many fields that a text begins with.
-unfoldable pub read_fields : ℕ → List ℕ → Fields
-read_fields zero xs = Values [] 0
+unfoldable pub read_fields : ℕ → List ℕ → Option Fields
+read_fields zero xs = Some (record { numbers = []; bytes = 0 })
 read_fields (suc k) xs = next_field xs (read_fields k xs)
 
 -- ---- a line
@@ -90,9 +91,9 @@ abbrev pub closed : List ℕ → ℕ → Line → Read
 closed xs n l = cond (eqb (get_or xs n 0) lf) (record { line = l; next = n + 1 }) malformed
 
 -- The line with these fields behind its letter.
-abbrev pub with_fields : List ℕ → Fields → Read
-with_fields xs (Values ns n) = closed xs (1 + n) (line_of (get_or xs 0 0) ns)
-with_fields xs BadFields = malformed
+abbrev pub with_fields : List ℕ → Option Fields → Read
+with_fields xs (Some fs) = closed xs (1 + fs.bytes) (line_of (get_or xs 0 0) fs.numbers)
+with_fields xs None = malformed
 
 -- The line that a text begins with: its letter, as many fields as the letter has, and an LF.
 unfoldable pub read_line : List ℕ → Read

@@ -13,16 +13,9 @@ pub const MOST_DIGITS: usize = 10;
 
 // A number in the text and how many bytes its field takes, the comma before it included.
 #[derive(Clone, Copy)]
-pub enum Number {
-    Value(u64, usize),
-    Bad,
-}
-
-// How many bytes some fields in a row take. Their numbers stand beside it, since no enum holds an array.
-#[derive(Clone, Copy)]
-pub enum Span {
-    Bytes(usize),
-    Bad,
+pub struct Number {
+    pub value: u64,
+    pub length: usize,
 }
 
 // A line by its letter, with its numbers in their order; or one that is malformed.

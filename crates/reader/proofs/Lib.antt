@@ -1,1 +1,3 @@
-pub mod Loops
+pub mod Digits
+pub mod Fields
+pub mod Line

@@ -1,16 +1,14 @@
 -- A number that a word is, with nothing behind it: the programs' arguments are written so.
 -- Assumes nothing.
-use Rattle.std.specs.Prelude.{ℕ, cond, List, leb, length}
+use Rattle.std.specs.Prelude.{ℕ, cond, Option, Some, None, option_and_then, List, leb, length}
 use Rattle.model.specs.declared.format.Number.{Number}
-use Rattle.model.specs.declared.format.Number.TheVariants.{Value, Bad}
 use Rattle.model.specs.Text.{number}
 
 -- What was read of a word of so many bytes is all of it. A number's bytes count the comma before a field, which no word
 -- has.
-abbrev pub alone : Number → ℕ → Number
-alone (Value n next) size = cond (leb next size) Bad (Value n next)
-alone Bad size = Bad
+abbrev pub alone : ℕ → Number → Option ℕ
+alone size n = cond (leb n.length size) None (Some n.value)
 
 -- The number that a word is.
-abbrev pub number_alone : List ℕ → Number
-number_alone word = alone (number word) (length word)
+abbrev pub number_alone : List ℕ → Option ℕ
+number_alone word = option_and_then (alone (length word)) (number word)

@@ -2,13 +2,14 @@
 // from its own start on, and answers how many bytes it has read.
 #![tactic(auto)]
 
-ghost use Rattle.std.specs.Prelude.{◌≡◌, ◌&&◌, ◌+◌, ◌-◌, ◌≤◌, ltb, length, get_or};
-ghost use Rattle.model.specs.Numbers.{digit_zero, most_digits};
-ghost use Rattle.model.specs.Text.{is_digit, number, field, read_fields, field_count, line_of, closed, read_line};
+ghost use Rattle.std.specs.Prelude.{◌≡◌, ◌≤◌, IsTrue, option_map, unwrap_or, length};
+ghost use Rattle.std.specs.List.{AllPass};
+ghost use Rattle.model.specs.Numbers.{most_digits};
+ghost use Rattle.model.specs.Text.{is_digit, digits, decimal_from, well_written, number, field, read_fields, field_count, line_of, malformed, read_line};
 ghost use Rattle.reader.specs.Alone.{number_alone};
 ghost use Rattle.reader.specs.Inner.Reading.{fields_of};
 
-use model::format::{COMMA, LF, Line, MOST_DIGITS, MOST_FIELDS, Number, Read, Span};
+use model::format::{COMMA, LF, Line, MOST_DIGITS, MOST_FIELDS, Number, Read};
 
 // A line that is malformed.
 const MALFORMED: Read = Read {
@@ -16,121 +17,113 @@ const MALFORMED: Read = Read {
     next: 0,
 };
 
-// Whether the byte at `at` is a digit, and no later than the one that makes a number too long.
-fn is_digit(text: &[u8], at: usize) -> bool
-    ensures { result ≡ (ltb at (most_digits + 1) && is_digit (get_or text.now at 0)) }
-{
-    if MOST_DIGITS < at {
-        return false;
-    }
-    if at < text.len() {
-        let byte = text[at];
-        return (b'0' <= byte) & (byte <= b'9');
-    }
-    false
-}
-
-// A digit's value.
-fn digit_value(byte: u8) -> u64
-    requires { digit_zero ≤ byte }
-    ensures { result ≡ byte - digit_zero }
-{
-    (byte - b'0') as u64
-}
+// ---- a number
 
 // The number that a word is, with nothing behind it, as the programs' arguments are written.
-pub fn read_alone(word: &[u8]) -> Number
+pub fn read_alone(word: &[u8]) -> Option<u64>
     ensures { result ≡ number_alone word.now }
 {
-    match read_number(word) {
-        Number::Value(value, next) => if next <= word.len() {
-            Number::Bad
-        } else {
-            Number::Value(value, next)
-        },
-        Number::Bad => Number::Bad,
-    }
+    let number = read_number(word)?;
+    (word.len() < number.length).then_some(number.value)
 }
 
 // The number that a text begins with: one to ten digits without leading zeros.
-pub fn read_number(text: &[u8]) -> Number
+#[tactic(auto, using(crate::proofs::Digits::all_digits, crate::proofs::Digits::few_digits), unfolding(model::specs::Text::number))]
+pub fn read_number(text: &[u8]) -> Option<Number>
     ensures { result ≡ number text.now }
 {
-    let mut value: u64 = 0;
-    let mut count: usize = 0;
-    while is_digit(text, count) {
-        let digit = digit_value(text[count]);
-        value = value * 10 + digit;
-        count += 1;
+    let digits = leading_digits(text);
+    if !is_well_written(digits) {
+        return None;
     }
-    if count == 0 {
-        return Number::Bad;
-    }
-    if MOST_DIGITS < count {
-        return Number::Bad;
-    }
-    if count == 1 {
-        return Number::Value(value, count + 1);
-    }
-    if text[0] == b'0' {
-        return Number::Bad;
-    }
-    Number::Value(value, count + 1)
+    Some(Number {
+        value: decimal(digits),
+        length: digits.len() + 1,
+    })
 }
+
+// The digits that a text begins with.
+fn leading_digits(text: &[u8]) -> &[u8]
+    ensures { result.now ≡ digits text.now }
+{
+    let count = text.iter().take_while(|byte| byte.is_ascii_digit()).count();
+    &text[..count]
+}
+
+// Whether these digits are one to ten without a leading zero.
+#[tactic(auto, unfolding(model::specs::Text::well_written))]
+fn is_well_written(digits: &[u8]) -> bool
+    ensures { result ≡ well_written digits.now }
+{
+    match digits {
+        [] => false,
+        [_] => true,
+        [first, ..] => *first != b'0' && digits.len() <= MOST_DIGITS,
+    }
+}
+
+// The number that these digits write in base ten.
+fn decimal(digits: &[u8]) -> u64
+    requires few { length digits.now ≤ most_digits }
+    requires all { AllPass is_digit digits.now }
+    ensures { result ≡ decimal_from 0 digits.now }
+{
+    let mut value = 0;
+    for digit in digits {
+        value = value * 10 + u64::from(*digit - b'0');
+    }
+    value
+}
+
+// ---- fields
 
 // The field that a text begins with: a comma and a number.
-fn read_field(text: &[u8]) -> Number
+#[tactic(auto, using(texts::proofs::Text::field_by_byte))]
+fn read_field(text: &[u8]) -> Option<Number>
     ensures { result ≡ field text.now }
 {
-    if text.len() == 0 {
-        return Number::Bad;
-    }
-    if text[0] == COMMA {
-        read_number(&text[1..])
-    } else {
-        Number::Bad
+    match text {
+        [COMMA, rest @ ..] => read_number(rest),
+        _ => None,
     }
 }
 
-// The fields that a text begins with, as many as `numbers` has places: each number goes to its place.
-fn read_fields(text: &[u8], numbers: &mut [u64]) -> Span
+// The fields that a text begins with, as many as `numbers` has places: each number goes to its place. Gives how many bytes
+// they take.
+fn read_fields(text: &[u8], numbers: &mut [u64]) -> Option<usize>
     ensures { fields_of result numbers.new ≡ read_fields (length numbers.old) text.now }
 {
-    let mut at: usize = 0;
-    let mut i: usize = 0;
-    while i < numbers.len() {
-        let Number::Value(value, bytes) = read_field(&text[at..]) else {
-            return Span::Bad;
-        };
-        numbers[i] = value;
-        at += bytes;
-        i += 1;
+    let mut at = 0;
+    for number in numbers.iter_mut() {
+        let field = read_field(&text[at..])?;
+        *number = field.value;
+        at += field.length;
     }
-    Span::Bytes(at)
+    Some(at)
 }
 
+// ---- a line
+
 // How many fields a line with this letter has; 0 for a byte that is no letter of a line.
+#[tactic(auto, unfolding(model::specs::Text::field_count))]
 fn field_count(letter: u8) -> usize
     ensures { result ≡ field_count letter }
 {
     match letter {
         b'M' => 6,
-        b'G' => 3,
-        b'R' => 3,
-        b'W' => 3,
+        b'G' | b'R' | b'W' => 3,
         _ => 0,
     }
 }
 
 // The line with this letter and these numbers.
-fn line_of(letter: u8, n: [u64; MOST_FIELDS]) -> Line
-    ensures { result ≡ line_of letter n }
+#[tactic(auto, unfolding(model::specs::Text::line_of))]
+fn line_of(letter: u8, numbers: [u64; MOST_FIELDS]) -> Line
+    ensures { result ≡ line_of letter numbers }
 {
-    let a = n[0];
-    let b = n[1];
-    let c = n[2];
+    let [a, b, c, d, e, f] = numbers;
     match letter {
-        b'M' => Line::M(a, b, c, n[3], n[4], n[5]),
+        b'M' => Line::M(a, b, c, d, e, f),
         b'G' => Line::G(a, b, c),
         b'R' => Line::R(a, b, c),
         b'W' => Line::W(a, b, c),
@@ -138,30 +131,23 @@ fn line_of(letter: u8, n: [u64; MOST_FIELDS]) -> Line
     }
 }
 
-// The line that was read up to `at`, if an LF ends it there.
-fn close_line(text: &[u8], at: usize, line: Line) -> Read
-    ensures { result ≡ closed text.now at line }
-{
-    if at < text.len() {
-        if text[at] == LF {
-            return Read { line, next: at + 1 };
-        }
-    }
-    MALFORMED
-}
-
 // The line that a text begins with: its letter, its fields, and an LF.
 pub fn read_line(text: &[u8]) -> Read
     ensures { result ≡ read_line text.now }
 {
-    if text.len() == 0 {
-        return MALFORMED;
-    }
-    let letter = text[0];
-    let count = field_count(letter);
-    let mut numbers = [0u64; MOST_FIELDS];
-    let Span::Bytes(n) = read_fields(&text[1..], &mut numbers[..count]) else {
-        return MALFORMED;
-    };
-    close_line(text, 1 + n, line_of(letter, numbers))
+    whole_line(text).unwrap_or(MALFORMED)
+}
+
+// The same; none where a field is bad or no LF ends the line.
+fn whole_line(text: &[u8]) -> Option<Read>
+    ensures { unwrap_or result malformed ≡ read_line text.now }
+{
+    let (letter, rest) = text.split_first()?;
+    let mut numbers = [0; MOST_FIELDS];
+    let end = 1 + read_fields(rest, &mut numbers[..field_count(*letter)])?;
+    let line = line_of(*letter, numbers);
+    (*text.get(end)? == LF).then_some(Read {
+        line,
+        next: end + 1,
+    })
 }

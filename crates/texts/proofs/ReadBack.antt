@@ -9,7 +9,7 @@ use native.Mathlib.Omega.{arith}
 use lib.Dec.{ltb, eqb}
 use lib.ListN.{length, get_or, get_or-append}
 use borrow.Author.Tests.{ltb-true, ltb-false, lt-ltb, le-leb, ne_eqb}
-use Rattle.model.specs.declared.format.Number.TheVariants.{Value}
+use Rattle.std.specs.Prelude.{Some}
 use Rattle.model.specs.Listing.{decimal_in, decimal}
 use Rattle.model.specs.Text.{is_digit, digits, decimal_from, well_written, number}
 use Rattle.model.proofs.Truth.{choice, either}
@@ -124,6 +124,6 @@ written n h = value 19 n (omega arith)
 -- Reading a number below 10^10 where it was printed, with no digit behind it, gives the number, and its field's bytes with
 -- the comma before it.
 pub read_back : (n : ℕ) (rest : List ℕ) → n < 10 ^ 10 → is_digit (get_or rest 0 0) ≡ false
-    → number (decimal n ++ rest) ≡ Value n (length (decimal n) + 1)
+    → number (decimal n ++ rest) ≡ Some (record { value = n; length = length (decimal n) + 1 })
 unfolding number
 read_back n rest h e = rw (printed n rest e, well_written_lem n h, written n h)

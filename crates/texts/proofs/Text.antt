@@ -13,13 +13,13 @@ use borrow.Author.Tests.{ltb-true, ltb-false, leb-true, eqb-true}
 use lib.Dec.{ltb, leb, eqb}
 use lib.ListN.{length, take, drop, get_or, replicate, length-drop, drop_of_length-le, get_or-eq_default}
 use lib.Seq.{take_all, drop-cons, get_or-drop}
+use Rattle.std.specs.Prelude.{Option, Some, None}
 use Rattle.model.specs.declared.format.Number.{Number}
-use Rattle.model.specs.declared.format.Number.TheVariants.{Value, Bad as BadNumber}
 use Rattle.model.specs.declared.format.Line.{Line}
 use Rattle.model.specs.declared.format.Line.TheVariants.{Malformed}
 use Rattle.model.specs.declared.format.Read.{Read}
 use Rattle.model.specs.Numbers.{letter_m, letter_g, letter_r, letter_w}
-use Rattle.model.specs.Text.{is_digit, digits, decimal_from, well_written, number, field, Fields, Values, BadFields, with_field, next_field, read_fields, field_count, line_of, closed, malformed, with_fields, read_line}
+use Rattle.model.specs.Text.{is_digit, digits, decimal_from, well_written, number, field, Fields, with_field, next_field, read_fields, field_count, line_of, closed, malformed, with_fields, read_line}
 use Rattle.model.proofs.Truth.{choice, either, and_iff}
 
 -- ---- a part of a text
@@ -78,22 +78,22 @@ first_digit (b ∷ xs) h = first_of (is_digit b) b (digits xs) h
 -- ---- a field
 
 -- A field, by the text's first byte.
-pub field_by_byte : (xs : List ℕ) → field xs ≡ cond (eqb (get_or xs 0 0) 44) (number (drop 1 xs)) BadNumber
+pub field_by_byte : (xs : List ℕ) → field xs ≡ cond (eqb (get_or xs 0 0) 44) (number (drop 1 xs)) None
 unfolding field
 field_by_byte [] = refl
 field_by_byte (b ∷ xs) = refl
 
 -- The field of a part of the text.
-pub field_of_part : (xs : List ℕ) (n : ℕ) (r q : Number) → r ≡ field (take (length xs - n) (drop n xs)) → r ≡ q
+pub field_of_part : (xs : List ℕ) (n : ℕ) (r q : Option Number) → r ≡ field (take (length xs - n) (drop n xs)) → r ≡ q
     → field (drop n xs) ≡ q
 field_of_part xs n r q e f = ap field (sym (part n xs)) ∙ sym e ∙ f
 
 -- ---- how many bytes are read
 
 -- The bytes of a number's field.
-abbrev number_size : Number → ℕ
-number_size (Value v n) = n
-number_size BadNumber = 0
+abbrev number_size : Option Number → ℕ
+number_size (Some n) = n.length
+number_size None = 0
 
 -- There are no more digits than bytes.
 digits_length : (xs : List ℕ) → length (digits xs) ≤ length xs
@@ -108,9 +108,9 @@ digits_length (b ∷ xs) =
 number_size_lem : (xs : List ℕ) → number_size (number xs) ≤ length xs + 1
 unfolding number
 number_size_lem xs =
-    choice (λ (r : Number). number_size r ≤ length xs + 1) (well_written (digits xs))
-    (Value (decimal_from 0 (digits xs)) (length (digits xs) + 1))
-    BadNumber
+    choice (λ (r : Option Number). number_size r ≤ length xs + 1) (well_written (digits xs))
+    (Some (record { value = decimal_from 0 (digits xs); length = length (digits xs) + 1 }))
+    None
     (λ e. omega (arith, digits_length xs))
     (λ e. omega arith)
 
@@ -119,41 +119,43 @@ field_size : (xs : List ℕ) → number_size (field xs) ≤ length xs
 unfolding field
 field_size [] = omega arith
 field_size (b ∷ xs) =
-    choice (λ (r : Number). number_size r ≤ suc (length xs)) (eqb b 44) (number xs) BadNumber
+    choice (λ (r : Option Number). number_size r ≤ suc (length xs)) (eqb b 44) (number xs) None
     (λ e. omega (arith, number_size_lem xs))
     (λ e. omega arith)
 
 -- The same of a field that was read.
-pub field_within : (xs : List ℕ) (v n : ℕ) → field xs ≡ Value v n → n ≤ length xs
-field_within xs v n e = subst (λ (r : Number). number_size r ≤ length xs) e (field_size xs)
+pub field_within : (xs : List ℕ) (n : Number) → field xs ≡ Some n → n.length ≤ length xs
+field_within xs n e = subst (λ (r : Option Number). number_size r ≤ length xs) e (field_size xs)
 
 -- Behind n bytes a field takes no more than are left.
-pub field_behind : (xs : List ℕ) (n v k : ℕ) → n ≤ length xs → field (drop n xs) ≡ Value v k → n + k ≤ length xs
-field_behind xs n v k h e = omega (arith, field_within (drop n xs) v k e, length-drop n xs)
+pub field_behind : (xs : List ℕ) (at : ℕ) (n : Number) → at ≤ length xs → field (drop at xs) ≡ Some n
+    → at + n.length ≤ length xs
+field_behind xs at n h e = omega (arith, field_within (drop at xs) n e, length-drop at xs)
 
 -- ---- fields, one by one
 
 -- The bytes of fields are no more than there are.
-abbrev fields_size : Fields → ℕ
-fields_size (Values ns n) = n
-fields_size BadFields = 0
+abbrev fields_size : Option Fields → ℕ
+fields_size (Some fs) = fs.bytes
+fields_size None = 0
 
-with_size : (xs ns : List ℕ) (n : ℕ) (r : Number) → n ≤ length xs → number_size r ≤ length (drop n xs)
-    → fields_size (with_field ns n r) ≤ length xs
-with_size xs ns n (Value v k) h g = omega (arith, length-drop n xs)
-with_size xs ns n BadNumber h g = omega arith
+with_size : (xs : List ℕ) (fs : Fields) (r : Option Number) → fs.bytes ≤ length xs
+    → number_size r ≤ length (drop fs.bytes xs)
+    → fields_size (with_field fs r) ≤ length xs
+with_size xs fs (Some n) h g = omega (arith, length-drop fs.bytes xs)
+with_size xs fs None h g = omega arith
 
-next_size : (xs : List ℕ) (r : Fields) → fields_size r ≤ length xs → fields_size (next_field xs r) ≤ length xs
-next_size xs (Values ns n) h = with_size xs ns n (field (drop n xs)) h (field_size (drop n xs))
-next_size xs BadFields h = omega arith
+next_size : (xs : List ℕ) (r : Option Fields) → fields_size r ≤ length xs → fields_size (next_field xs r) ≤ length xs
+next_size xs (Some fs) h = with_size xs fs (field (drop fs.bytes xs)) h (field_size (drop fs.bytes xs))
+next_size xs None h = omega arith
 
 fields_size_lem : (k : ℕ) (xs : List ℕ) → fields_size (read_fields k xs) ≤ length xs
 unfolding read_fields
 fields_size_lem zero xs = omega arith
 fields_size_lem (suc k) xs = next_size xs (read_fields k xs) (fields_size_lem k xs)
 
-pub fields_within : (k : ℕ) (xs ns : List ℕ) (n : ℕ) → read_fields k xs ≡ Values ns n → n ≤ length xs
-fields_within k xs ns n e = subst (λ (r : Fields). fields_size r ≤ length xs) e (fields_size_lem k xs)
+pub fields_within : (k : ℕ) (xs : List ℕ) (fs : Fields) → read_fields k xs ≡ Some fs → fs.bytes ≤ length xs
+fields_within k xs fs e = subst (λ (r : Option Fields). fields_size r ≤ length xs) e (fields_size_lem k xs)
 
 -- ---- a line
 
@@ -209,9 +211,9 @@ sized_closed xs n l =
     })
     (λ e. sized_malformed xs)
 
-sized_fields : (xs : List ℕ) (r : Fields) → Sized xs (with_fields xs r)
-sized_fields xs (Values ns n) = sized_closed xs (1 + n) (line_of (get_or xs 0 0) ns)
-sized_fields xs BadFields = sized_malformed xs
+sized_fields : (xs : List ℕ) (r : Option Fields) → Sized xs (with_fields xs r)
+sized_fields xs (Some fs) = sized_closed xs (1 + fs.bytes) (line_of (get_or xs 0 0) fs.numbers)
+sized_fields xs None = sized_malformed xs
 
 -- Every line that is read.
 pub sized : (xs : List ℕ) → Sized xs (read_line xs)

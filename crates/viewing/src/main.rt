@@ -6,7 +6,6 @@
 use arguments::{Named, has_argument, label_argument, number_argument};
 use intake::read_whole;
 use labels::Bits;
-use model::format::Number;
 use view::{OUTPUT, view_alone};
 
 // More bytes than a text may have, so that a longer one is noticed.
@@ -31,7 +30,7 @@ fn read_arguments(rt: &HostRuntime) -> Asked {
     let Named::Label(label) = label_argument(rt, 1) else {
         return Asked::Nothing;
     };
-    let Number::Value(tick, _) = number_argument(rt, 2) else {
+    let Some(tick) = number_argument(rt, 2) else {
         return Asked::Nothing;
     };
     Asked::View(label, tick)

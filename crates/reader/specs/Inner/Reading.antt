@@ -1,11 +1,8 @@
 -- What the reader of fields answers.
 -- Assumes nothing.
-use Rattle.std.specs.Prelude.{ℕ, List}
-use Rattle.model.specs.declared.format.Span.{Span}
-use Rattle.model.specs.declared.format.Span.TheVariants.{Bytes, Bad}
-use Rattle.model.specs.Text.{Fields, Values, BadFields}
+use Rattle.std.specs.Prelude.{ℕ, List, Option, option_map}
+use Rattle.model.specs.Text.{Fields}
 
 -- The fields, by the bytes that they take and the numbers that were put to their places.
-abbrev pub fields_of : Span → List ℕ → Fields
-fields_of (Bytes n) ns = Values ns n
-fields_of Bad ns = BadFields
+abbrev pub fields_of : Option ℕ → List ℕ → Option Fields
+fields_of bytes ns = option_map (λ n. record { numbers = ns; bytes = n }) bytes
