@@ -10,7 +10,7 @@ ghost use Rattle.certify.specs.Inner.Breaks.{break_with};
 use crate::{Certificate, WHOLE};
 use labels::{Bits, Label};
 use model::{Control, Fixed};
-use parts::calls::{is_upcall, newest};
+use parts::calls::{OpenCall, newest};
 use parts::word::index;
 
 // The causes of such states.
@@ -64,7 +64,7 @@ pub(in crate) fn break_of(label: Bits, opened: bool, control: Control) -> Certif
     let first = control.first;
     let second = control.second;
     let call = newest(first, second);
-    if is_upcall(call) {
+    if call.is_upcall() {
         return WHOLE;
     }
     if opened {

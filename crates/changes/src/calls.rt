@@ -14,7 +14,8 @@ use crate::rows::{label_of, new_pair_allowed};
 use labels::{Bits, Label};
 use model::numbers::{MOST_GATES, REGISTER_COUNT};
 use model::{CallGate, Fixed, Pair};
-use parts::live::{Live, is_empty, is_gate, is_upcall};
+use parts::calls::OpenCall;
+use parts::live::Live;
 use parts::stages::Change;
 use parts::word::{a_of, b_of, c_of, d_of, index};
 
@@ -51,7 +52,7 @@ pub fn upcall(
     let d = d_of(w);
     let rb = values[b];
     let rc = values[c];
-    if is_upcall(live.newest) {
+    if live.newest.is_upcall() {
         return Change::Pass;
     }
     if new_pair_allowed(rb, rc, labels[b], labels[c], pair.pc) {
@@ -101,7 +102,7 @@ pub fn call_gate(
     let own = live.pair;
     let b = b_of(w);
     let rb = values[b];
-    if is_empty(live.newest) {
+    if live.newest.is_empty() {
         if rb < fixed.count {
             let gate = gate_at(fixed, rb);
             let pair = gate.pair;
@@ -120,7 +121,7 @@ pub fn return_gate(live: Live) -> Change
     let pair = live.pair;
     let call = live.newest;
     let kept = call.pair;
-    if is_gate(call) {
+    if call.is_gate() {
         if Label(pair.pc)
             .join(Label(pair.timing))
             .flows_to(Label(kept.pc).meet(Label(kept.timing)))

@@ -21,7 +21,8 @@ use model::Fixed;
 use model::numbers::{
     BY_FAILURE, BY_ITS_END, BY_SPENT_TIME, OUTSIDE_MEMORY, REGISTER_COUNT, UNKNOWN_OP, UNREADABLE,
 };
-use parts::live::{Live, is_upcall};
+use parts::calls::OpenCall;
+use parts::live::Live;
 use parts::stages::{Change, Decision, Reason};
 use parts::word::op_of;
 
@@ -30,7 +31,7 @@ fn in_time(live: Live, ticks: u32, change: Change) -> Decision
     ensures { InTime live ticks change result }
 {
     let call = live.newest;
-    if is_upcall(call) {
+    if call.is_upcall() {
         if call.end < live.clock as u64 + ticks as u64 {
             return Decision::Close(BY_SPENT_TIME);
         }
@@ -42,7 +43,7 @@ fn in_time(live: Live, ticks: u32, change: Change) -> Decision
 fn fault(live: Live, errorpc: u32, why: u8) -> Decision
     ensures { (reason : Reason) (fixed : Fixed) (values labels : List ℕ) → fixed.errorpc ≡ errorpc → Decides reason (λ s. fault s why) fixed live values labels result }
 {
-    if is_upcall(live.newest) {
+    if live.newest.is_upcall() {
         return Decision::Close(BY_FAILURE);
     }
     if live.pc == errorpc {
@@ -55,7 +56,7 @@ fn fault(live: Live, errorpc: u32, why: u8) -> Decision
 fn late(live: Live) -> Decision
     ensures { (reason : Reason) (fixed : Fixed) (values labels : List ℕ) → Decides reason late_of fixed live values labels result }
 {
-    if is_upcall(live.newest) {
+    if live.newest.is_upcall() {
         Decision::Close(BY_SPENT_TIME)
     } else {
         Decision::Spend
@@ -66,7 +67,7 @@ fn late(live: Live) -> Decision
 fn end_upcall(live: Live) -> Decision
     ensures { (w : ℕ) (fixed : Fixed) (values labels : List ℕ) → Decides (Rest w) (λ s. plan s (fetched w end_upcall)) fixed live values labels result }
 {
-    if is_upcall(live.newest) {
+    if live.newest.is_upcall() {
         Decision::Close(BY_ITS_END)
     } else {
         Decision::Carry(1, Change::Pass)
@@ -77,7 +78,7 @@ fn end_upcall(live: Live) -> Decision
 fn halt(live: Live) -> Decision
     ensures { (w : ℕ) (fixed : Fixed) (values labels : List ℕ) → Decides (Rest w) (λ s. plan s (fetched w halt)) fixed live values labels result }
 {
-    if is_upcall(live.newest) {
+    if live.newest.is_upcall() {
         Decision::Close(BY_FAILURE)
     } else {
         Decision::Carry(1, Change::Stop)

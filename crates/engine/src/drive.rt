@@ -13,7 +13,8 @@ use model::numbers::REGISTER_COUNT;
 use model::{Control, Fixed};
 use pacing::setting::sets_label;
 use pacing::{is_once, is_stride, looked_at, relabels, tick_of};
-use parts::live::{Live, control_of, deadline_of, is_upcall, live_of};
+use parts::calls::{OpenCall, deadline_of};
+use parts::live::Live;
 use parts::stages::Decision;
 use parts::word::index;
 use sprint::{Place, sprint};
@@ -84,7 +85,7 @@ fn context_of(size: u32, live: Live, deadline: u32) -> Context
     Context {
         size,
         pair,
-        up: is_upcall(call),
+        up: call.is_upcall(),
         deadline,
     }
 }
@@ -120,7 +121,7 @@ pub(in crate) fn drive(
     let limit = fixed.limit;
     let tick = tick_of(pace, limit);
     let mut turned = turn(labels);
-    let mut live = live_of(start);
+    let mut live = Live::from(start);
     if tick < live.clock {
         return start;
     }
@@ -134,20 +135,20 @@ pub(in crate) fn drive(
         let reason = pause.reason;
         live = moved(live, deadline + 1 - there.left, there.pc);
         if (there.left < place.left) & single & (once | relabels(reason)) {
-            return control_of(live);
+            return Control::from(live);
         }
         let decision = decide(reason, fixed, live, values, labels);
         if is_barred(tick, decision, live, limit) {
-            return control_of(live);
+            return Control::from(live);
         }
         write_back(decision, live, values, labels);
         live = control_after(live, limit, decision);
         if single {
-            return control_of(live);
+            return Control::from(live);
         }
         if sets_label(decision) {
             turned = turn(labels);
         }
     }
-    control_of(live)
+    Control::from(live)
 }

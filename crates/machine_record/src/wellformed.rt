@@ -8,7 +8,7 @@ ghost use Rattle.machine_record.specs.Inner.WellFormed.{control_at, over_gate};
 use labels::{Bits, Label};
 use model::numbers::{MOST_GATES, MOST_TICKS, MOST_WORDS, STALLED, UNKNOWN_OP};
 use model::{Call, CallGate, Pair};
-use parts::calls::is_empty;
+use parts::calls::OpenCall;
 
 // The ranges of what no step changes.
 pub(in crate) fn fixed_in_range(size: u32, limit: u32, count: u32) -> bool
@@ -64,7 +64,7 @@ pub(in crate) fn calls_well_formed(p: Bits, t: Bits, clock: u32, first: Call, se
     ensures { (c : Control) → result ≡ calls_well_formed (control_at c p t clock) first second }
 {
     match first {
-        Call::Empty => is_empty(second),
+        Call::Empty => second.is_empty(),
         Call::Gate(_, q) => over_gate(
             Label(q.pc).is_valid_pair(Label(q.timing)),
             p,
@@ -72,7 +72,7 @@ pub(in crate) fn calls_well_formed(p: Bits, t: Bits, clock: u32, first: Call, se
             clock,
             second,
         ),
-        Call::Upcall(_, q, e) => is_empty(second) & upcall_well_formed(p, t, clock, q, e),
+        Call::Upcall(_, q, e) => second.is_empty() & upcall_well_formed(p, t, clock, q, e),
     }
 }
 

@@ -9,7 +9,7 @@ ghost use Rattle.pacing.specs.Fitting.{is_timely, fitting};
 use labels::Bits;
 use model::numbers::{MOST_GATES, MOST_TICKS, MOST_WORDS};
 use model::{Call, Control, Fixed};
-use parts::calls::is_gate;
+use parts::calls::OpenCall;
 use parts::word::index;
 
 // Whether a call, if it is an upcall, ends at the clock or later.
@@ -30,7 +30,7 @@ fn calls_fit(clock: u32, first: Call, second: Call) -> bool
     match second {
         Call::Empty => is_timely(clock, first),
         Call::Gate(_, _) => false,
-        Call::Upcall(_, _, end) => is_gate(first) & (clock as u64 <= end),
+        Call::Upcall(_, _, end) => first.is_gate() & (clock as u64 <= end),
     }
 }
 

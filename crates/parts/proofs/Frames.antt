@@ -1,67 +1,14 @@
 -- Laws about the control while the machine runs: which call a frame holds, and which control is meant.
 -- Assumes nothing.
-use Prim.Native.Nat.{ℕ, zero, suc, ◌<◌}
 use mathlib.Core.Path.{◌≡◌, refl, ap, ◌∙◌}
-use mathlib.Core.Logic.{inl, inr, ⊎_elim}
+use mathlib.Core.Logic.{inl, inr}
 use mathlib.Core.Bool.{Bool, true, false, ◌||◌, cond, false≢true}
-use native.Mathlib.Omega.{arith}
-use lib.Dec.{ltb, eqb}
-use borrow.Author.Tests.{eqb-true, eqb-false, eq-eqb, ne_eqb, lt-ltb, le-ltb}
 use Rattle.model.specs.declared.Control.{Control}
 use Rattle.model.specs.declared.Call.{Call}
 use Rattle.model.specs.declared.Call.TheVariants.{Empty, Gate, Upcall}
 use Rattle.model.specs.Record.{is_empty, is_gate, is_upcall, newest}
-use Rattle.model.proofs.Truth.{either}
-use Rattle.parts.specs.declared.live.Frame.{Frame}
 use Rattle.parts.specs.declared.live.Live.{Live}
 use Rattle.parts.specs.Live.{call_of, frame_of, live_of, control_of, Tidy, stacks, Lives}
-
--- ---- a frame by its kind
-
--- A number above 1.
-pub above : (n : ℕ) → (n ≡ 0 → ⊥) → (n ≡ 1 → ⊥) → 1 < n
-above zero a b = absurd (a refl)
-above (suc zero) a b = absurd (b refl)
-above (suc (suc n)) a b = omega arith
-
-module _ (f : Frame) where
-  pub holds_none : f.kind ≡ 0 → call_of f ≡ Empty
-  unfolding call_of
-  holds_none e = rw (eq-eqb f.kind 0 e)
-
-  pub holds_gate : f.kind ≡ 1 → call_of f ≡ Gate f.back f.pair
-  unfolding call_of
-  holds_gate e = rw (ne_eqb f.kind 0 (λ z. omega (arith, e, z)), eq-eqb f.kind 1 e)
-
-  pub holds_upcall : 1 < f.kind → call_of f ≡ Upcall f.back f.pair f.end
-  unfolding call_of
-  holds_upcall h = rw (ne_eqb f.kind 0 (λ z. omega (arith, h, z)), ne_eqb f.kind 1 (λ z. omega (arith, h, z)))
-
-  -- Each of the three kinds.
-  by_kind : (P : Type 0) → (f.kind ≡ 0 → P) → (f.kind ≡ 1 → P) → (1 < f.kind → P) → P
-  by_kind P none gate up =
-      ⊎_elim (λ (e : eqb f.kind 0 ≡ true). none (eqb-true f.kind 0 e))
-      (λ (e : eqb f.kind 0 ≡ false).
-      ⊎_elim (λ (g : eqb f.kind 1 ≡ true). gate (eqb-true f.kind 1 g))
-      (λ (g : eqb f.kind 1 ≡ false). up (above f.kind (eqb-false f.kind 0 e) (eqb-false f.kind 1 g)))
-      (either (eqb f.kind 1)))
-      (either (eqb f.kind 0))
-
-  pub none_by_kind : eqb f.kind 0 ≡ is_empty (call_of f)
-  none_by_kind =
-      by_kind (eqb f.kind 0 ≡ is_empty (call_of f)) (λ e. rw (holds_none e) (eq-eqb f.kind 0 e))
-      (λ e. rw (holds_gate e) (ne_eqb f.kind 0 (λ z. omega (arith, e, z))))
-      (λ h. rw (holds_upcall h) (ne_eqb f.kind 0 (λ z. omega (arith, h, z))))
-
-  pub gate_by_kind : eqb f.kind 1 ≡ is_gate (call_of f)
-  gate_by_kind =
-      by_kind (eqb f.kind 1 ≡ is_gate (call_of f)) (λ e. rw (holds_none e) (ne_eqb f.kind 1 (λ z. omega (arith, e, z))))
-      (λ e. rw (holds_gate e) (eq-eqb f.kind 1 e)) (λ h. rw (holds_upcall h) (ne_eqb f.kind 1 (λ z. omega (arith, h, z))))
-
-  pub upcall_by_kind : ltb 1 f.kind ≡ is_upcall (call_of f)
-  upcall_by_kind =
-      by_kind (ltb 1 f.kind ≡ is_upcall (call_of f)) (λ e. rw (holds_none e) (le-ltb 1 f.kind (omega (arith, e))))
-      (λ e. rw (holds_gate e) (le-ltb 1 f.kind (omega (arith, e)))) (λ h. rw (holds_upcall h) (lt-ltb 1 f.kind h))
 
 -- ---- frames as they are made
 

@@ -1,27 +1,27 @@
-// The control while the machine runs. Its open calls are plain numbers, the newest on top of the older: an enum would be
-// built anew at each change.
-ghost use Rattle.std.specs.Prelude.{◌≤◌, ◌≡◌};
-ghost use Rattle.model.specs.Record.{is_empty, is_gate, is_upcall};
-ghost use Rattle.parts.specs.Calls.{deadline_of};
-ghost use Rattle.parts.specs.Live.{call_of, no_frame, frame_of, live_of, control_of};
+// The control while the machine runs. Its open calls are frames with a field for each part, the newest on top of the
+// older: an enum with values would be built anew at each change.
+ghost use Rattle.std.specs.Prelude.{ℕ, ◌≡◌, refl};
+ghost use Rattle.model.specs.declared.Call.{Call};
+ghost use Rattle.parts.specs.Live.{call_of, upcall_ends, no_frame, frame_of, live_of, control_of};
 
-use crate::calls;
+use crate::calls::OpenCall;
 use model::{Call, Control, Pair};
 
-// What a frame holds: no call, a gate call, or above that an upcall.
-pub const NO_CALL: u16 = 0;
+// Which call a frame holds, if any.
+#[derive(Clone, Copy, PartialEq, Eq)]
+pub enum Kind {
+    Empty,
+    Gate,
+    Upcall,
+}
 
-pub const GATE_CALL: u16 = 1;
-
-pub const UPCALL: u16 = 2;
-
-// An open call in plain numbers. The kind takes two bytes, so that the struct has none that mean nothing.
+// An open call with a field for each part.
 #[derive(Clone, Copy)]
 pub struct Frame {
     pub end: u64,
     pub back: u32,
     pub pair: Pair,
-    pub kind: u16,
+    pub kind: Kind,
 }
 
 // The control of a machine that runs.
@@ -36,142 +36,122 @@ pub struct Live {
     pub why: u8,
 }
 
-// No open call.
-pub fn no_frame() -> Frame
-    ensures { result ≡ no_frame }
-{
-    let pair = Pair { pc: 0, timing: 0 };
-    Frame {
-        end: 0,
-        back: 0,
-        pair,
-        kind: NO_CALL,
-    }
-}
-
-// Which call it holds, if any.
-pub fn is_empty(frame: Frame) -> bool
-    ensures { result ≡ is_empty (call_of frame) }
-{
-    frame.kind == NO_CALL
-}
-
-pub fn is_gate(frame: Frame) -> bool
-    ensures { result ≡ is_gate (call_of frame) }
-{
-    frame.kind == GATE_CALL
-}
-
-pub fn is_upcall(frame: Frame) -> bool
-    ensures { result ≡ is_upcall (call_of frame) }
-{
-    GATE_CALL < frame.kind
-}
-
-// The tick by which a common op has to finish while this call is the newest.
-pub fn deadline_of(limit: u32, call: Frame) -> u32
-    ensures { (result ≡ deadline_of (is_upcall (call_of call)) call.end limit) × (result ≤ limit) }
-{
-    if is_upcall(call) {
-        return calls::nearer(call.end, limit);
-    }
-    limit
-}
-
-// A call in plain numbers.
-pub fn frame_of(call: Call) -> Frame
-    ensures { result ≡ frame_of call }
-{
-    match call {
-        Call::Empty => no_frame(),
-        Call::Gate(back, pair) => Frame {
+impl Frame {
+    // No open call.
+    pub fn none() -> Frame
+        ensures { result ≡ no_frame }
+    {
+        Frame {
             end: 0,
-            back,
-            pair,
-            kind: GATE_CALL,
-        },
-        Call::Upcall(back, pair, end) => Frame {
-            end,
-            back,
-            pair,
-            kind: UPCALL,
-        },
+            back: 0,
+            pair: Pair { pc: 0, timing: 0 },
+            kind: Kind::Empty,
+        }
     }
 }
 
-// The call that a frame holds.
-pub fn call_of(frame: Frame) -> Call
-    ensures { result ≡ call_of frame }
-{
-    let pair = frame.pair;
-    if frame.kind == NO_CALL {
-        return Call::Empty;
+#[tactic(auto, unfolding(crate::specs::Live::call_of))]
+impl OpenCall for Frame {
+    ghost call = { call_of };
+
+    ghost end = { λ f. f.end };
+
+    fn is_empty(self) -> bool {
+        self.kind == Kind::Empty
     }
-    if frame.kind == GATE_CALL {
-        return Call::Gate(frame.back, pair);
+
+    fn is_gate(self) -> bool {
+        self.kind == Kind::Gate
     }
-    Call::Upcall(frame.back, pair, frame.end)
+
+    fn is_upcall(self) -> bool {
+        self.kind == Kind::Upcall
+    }
+
+    fn end_tick(self) -> u64 {
+        self.end
+    }
+
+    ghost ends = { upcall_ends };
+}
+
+impl From<Call> for Frame {
+    ghost from_gives = { λ c f. f ≡ frame_of c };
+
+    fn from(call: Call) -> Frame {
+        match call {
+            Call::Empty => Frame::none(),
+            Call::Gate(back, pair) => Frame {
+                end: 0,
+                back,
+                pair,
+                kind: Kind::Gate,
+            },
+            Call::Upcall(back, pair, end) => Frame {
+                end,
+                back,
+                pair,
+                kind: Kind::Upcall,
+            },
+        }
+    }
+}
+
+#[tactic(auto, unfolding(crate::specs::Live::call_of))]
+impl From<Frame> for Call {
+    ghost from_gives = { λ f c. c ≡ call_of f };
+
+    fn from(frame: Frame) -> Call {
+        match frame.kind {
+            Kind::Empty => Call::Empty,
+            Kind::Gate => Call::Gate(frame.back, frame.pair),
+            Kind::Upcall => Call::Upcall(frame.back, frame.pair, frame.end),
+        }
+    }
 }
 
 // The control of a machine that runs on from this one.
-pub fn live_of(control: Control) -> Live
-    ensures { result ≡ live_of control }
-{
-    let pair = control.pair;
-    let first = control.first;
-    let second = control.second;
-    let below = frame_of(first);
-    if calls::is_empty(second) {
-        let older = no_frame();
-        return Live {
+impl From<Control> for Live {
+    ghost from_gives = { λ c l. l ≡ live_of c };
+
+    fn from(control: Control) -> Live {
+        let below = Frame::from(control.first);
+        let (newest, older) = if control.second.is_empty() {
+            (below, Frame::none())
+        } else {
+            (Frame::from(control.second), below)
+        };
+        Live {
             pc: control.pc,
-            pair,
+            pair: control.pair,
             clock: control.clock,
-            newest: below,
+            newest,
             older,
             end: control.end,
             why: control.why,
-        };
-    }
-    let newest = frame_of(second);
-    Live {
-        pc: control.pc,
-        pair,
-        clock: control.clock,
-        newest,
-        older: below,
-        end: control.end,
-        why: control.why,
+        }
     }
 }
 
 // The same as the record holds it: a lone call in the first place.
-pub fn control_of(live: Live) -> Control
-    ensures { result ≡ control_of live }
-{
-    let pair = live.pair;
-    let newest = live.newest;
-    let older = live.older;
-    let call = call_of(newest);
-    if is_empty(older) | is_empty(newest) {
-        return Control {
+impl From<Live> for Control {
+    ghost from_gives = { λ l c. c ≡ control_of l };
+
+    fn from(live: Live) -> Control {
+        let call = Call::from(live.newest);
+        let (first, second) = if live.older.is_empty() | live.newest.is_empty() {
+            (call, Call::Empty)
+        } else {
+            (Call::from(live.older), call)
+        };
+        Control {
             pc: live.pc,
-            pair,
+            pair: live.pair,
             clock: live.clock,
-            first: call,
-            second: Call::Empty,
+            first,
+            second,
             end: live.end,
             why: live.why,
-        };
-    }
-    let first = call_of(older);
-    Control {
-        pc: live.pc,
-        pair,
-        clock: live.clock,
-        first,
-        second: call,
-        end: live.end,
-        why: live.why,
+        }
     }
 }

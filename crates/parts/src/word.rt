@@ -1,4 +1,6 @@
 // A word of the program taken apart: the op's number, the register numbers a, b, c and d, and the number n.
+#![tactic(auto, unfolding(model::specs::Word::op_field, model::specs::Word::a_field, model::specs::Word::b_field, model::specs::Word::c_field, model::specs::Word::d_field, model::specs::Word::n_field))]
+
 ghost use Rattle.std.specs.Prelude.{◌<◌, ◌≡◌};
 ghost use Rattle.model.specs.Numbers.{register_count};
 ghost use Rattle.model.specs.Word.{op_field, a_field, b_field, c_field, d_field, n_field};

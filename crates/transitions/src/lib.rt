@@ -5,9 +5,9 @@ ghost use Rattle.std.specs.Prelude.{◌≡◌};
 ghost use Rattle.transitions.specs.Transitions.{moved, entered, opened, restored, ended, changed, closing_tick, control_after, labelled, caused, written_back};
 
 use labels::{Bits, Label};
-use model::Pair;
 use model::numbers::{CLOCK_SPENT, HALTED, REGISTER_COUNT, STALLED};
-use parts::live::{Frame, GATE_CALL, Live, UPCALL, no_frame};
+use model::{Call, Pair};
+use parts::live::{Frame, Live};
 use parts::stages::{Change, Decision};
 use std::num::wrapping_add_u32;
 
@@ -20,32 +20,30 @@ const CAUSE_REGISTER: usize = 15;
 pub fn moved(live: Live, clock: u32, pc: u32) -> Live
     ensures { result ≡ moved live clock pc }
 {
-    let mut after = live;
-    after.clock = clock;
-    after.pc = pc;
-    after
+    Live { clock, pc, ..live }
 }
 
 // At another clock, pc and pair.
 fn entered(live: Live, clock: u32, pc: u32, pair: Pair) -> Live
     ensures { result ≡ entered live clock pc pair }
 {
-    let mut after = live;
-    after.clock = clock;
-    after.pc = pc;
-    after.pair = pair;
-    after
+    Live {
+        clock,
+        pc,
+        pair,
+        ..live
+    }
 }
 
 // With one more open call.
 fn opened(live: Live, call: Frame) -> Live
     ensures { result ≡ opened live call }
 {
-    let below = live.newest;
-    let mut after = live;
-    after.newest = call;
-    after.older = below;
-    after
+    Live {
+        newest: call,
+        older: live.newest,
+        ..live
+    }
 }
 
 // At another clock, the newest call closed and its pc and pair restored.
@@ -53,56 +51,45 @@ fn restored(live: Live, clock: u32) -> Live
     ensures { result ≡ restored live clock }
 {
     let call = live.newest;
-    let below = live.older;
-    let none = no_frame();
-    let pair = call.pair;
-    let mut after = live;
-    after.pc = call.back;
-    after.pair = pair;
-    after.clock = clock;
-    after.newest = below;
-    after.older = none;
-    after
+    Live {
+        pc: call.back,
+        pair: call.pair,
+        clock,
+        newest: live.older,
+        older: Frame::none(),
+        ..live
+    }
 }
 
 // At another clock, ended.
 fn ended(live: Live, clock: u32, end: u8, why: u8) -> Live
     ensures { result ≡ ended live clock end why }
 {
-    let mut after = live;
-    after.clock = clock;
-    after.end = end;
-    after.why = why;
-    after
+    Live {
+        clock,
+        end,
+        why,
+        ..live
+    }
 }
 
 // After a change that leaves this clock.
+#[tactic(auto, unfolding(crate::specs::Transitions::changed))]
 fn changed(live: Live, clock: u32, change: Change) -> Live
     ensures { result ≡ changed live clock change }
 {
     let pair = live.pair;
     let next = wrapping_add_u32(live.pc, 1);
     match change {
-        Change::Pass => moved(live, clock, next),
-        Change::SetLabel(_, _) => moved(live, clock, next),
+        Change::Pass | Change::SetLabel(_, _) => moved(live, clock, next),
         Change::Goto(pc) => moved(live, clock, pc),
         Change::Enter(to) => entered(live, clock, next, to),
         Change::OpenUpcall(back, to, end) => {
-            let call = Frame {
-                end,
-                back,
-                pair,
-                kind: UPCALL,
-            };
+            let call = Frame::from(Call::Upcall(back, pair, end));
             entered(opened(live, call), clock, next, to)
         }
         Change::OpenGate(entry, to) => {
-            let call = Frame {
-                end: 0,
-                back: next,
-                pair,
-                kind: GATE_CALL,
-            };
+            let call = Frame::from(Call::Gate(next, pair));
             entered(opened(live, call), clock, entry, to)
         }
         Change::CloseGate => restored(live, clock),
@@ -121,6 +108,7 @@ fn closing_tick(call: Frame, limit: u32) -> u32
 }
 
 // After a decision.
+#[tactic(auto, unfolding(crate::specs::Transitions::control_after))]
 pub fn control_after(live: Live, limit: u32, decision: Decision) -> Live
     ensures { result ≡ control_after live limit decision }
 {
@@ -140,17 +128,8 @@ pub fn control_after(live: Live, limit: u32, decision: Decision) -> Live
 fn write_label(change: Change, labels: &mut [Bits; REGISTER_COUNT])
     ensures { labels.new ≡ labelled change labels.old }
 {
-    match change {
-        Change::Pass => {}
-        Change::SetLabel(a, label) => {
-            labels[a % REGISTER_COUNT] = label;
-        }
-        Change::Goto(_) => {}
-        Change::Enter(_) => {}
-        Change::OpenUpcall(_, _, _) => {}
-        Change::OpenGate(_, _) => {}
-        Change::CloseGate => {}
-        Change::Stop => {}
+    if let Change::SetLabel(a, label) = change {
+        labels[a % REGISTER_COUNT] = label;
     }
 }
 
@@ -169,6 +148,7 @@ fn write_cause(
 }
 
 // What a decision writes under this control.
+#[tactic(auto, unfolding(crate::specs::Transitions::written_back))]
 pub fn write_back(
     decision: Decision,
     live: Live,
@@ -179,8 +159,7 @@ pub fn write_back(
 {
     let pair = live.pair;
     match decision {
-        Decision::Spend => {}
-        Decision::Stall(_) => {}
+        Decision::Spend | Decision::Stall(_) => {}
         Decision::Close(cause) => write_cause(cause, pair, values, labels),
         Decision::Carry(_, change) => write_label(change, labels),
     }
