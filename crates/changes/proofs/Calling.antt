@@ -1,12 +1,12 @@
 -- Laws about the state at an op: its newest call, values that pass for labels, and numbers of gates.
 -- Assumes nothing.
 use Prim.Native.Nat.{ℕ, ◌≤◌, ◌<◌}
-use mathlib.Core.Path.{◌≡◌, sym, ap, ◌∙◌}
-use mathlib.Core.Bool.{Bool, true, ◌&&◌}
+use mathlib.Core.Path.{◌≡◌, refl, sym, ap, ◌∙◌}
+use mathlib.Core.Bool.{Bool, true, ◌&&◌, false≢true}
 use mathlib.Core.List.{List}
 use native.Mathlib.Omega.{arith}
 use lib.ListN.{length, get_or, get_or-eq_default}
-use borrow.Author.Tests.{ltb-true, eqb-true}
+use borrow.Author.Tests.{ltb-true}
 use Rattle.labels.specs.Label.{label_count, flows, valid_pair}
 use Rattle.model.specs.declared.CallGate.{CallGate}
 use Rattle.model.specs.declared.Fixed.{Fixed}
@@ -15,10 +15,12 @@ use Rattle.model.specs.WellFormed.{no_gate}
 use Rattle.model.specs.Ops.{is_label}
 use Rattle.model.specs.Step.{end_tick}
 use Rattle.model.proofs.Truth.{and_iff}
+use Rattle.parts.specs.declared.live.Kind.{Kind}
+use Rattle.parts.specs.declared.live.Kind.TheVariants as kinds
 use Rattle.parts.specs.declared.live.Frame.{Frame}
 use Rattle.parts.specs.declared.live.Live.{Live}
-use Rattle.parts.specs.Live.{call_of, control_of}
-use Rattle.parts.proofs.Frames.{holds_gate, holds_upcall, gate_by_kind, upcall_by_kind, newest_is}
+use Rattle.parts.specs.Live.{call_from, call_of, upcall_ends, control_of}
+use Rattle.parts.proofs.Frames.{newest_is}
 
 -- ---- the newest call
 
@@ -33,12 +35,17 @@ module _ (live : Live) where
       → end_tick (state_from fixed (control_of live) values labels words marks) ≡ live.newest.end
   unfolding end_tick
   end_tick_lem u fixed values labels words marks =
-      let f = live.newest in
-      ap end_tick_of (newest_is live ∙ holds_upcall f (ltb-true 1 f.kind (upcall_by_kind f ∙ u)))
+      ap end_tick_of (newest_is live) ∙ sym (upcall_ends live.newest u)
 
 -- A frame that holds a gate call has the pair that is kept.
 pub kept_pair_lem : (f : Frame) → is_gate (call_of f) ≡ true → pair_of (call_of f) ≡ f.pair
-kept_pair_lem f g = ap pair_of (holds_gate f (eqb-true f.kind 1 (gate_by_kind f ∙ g)))
+unfolding call_of
+kept_pair_lem f = go f.kind
+  where
+    go : (kind : Kind) → is_gate (call_from kind f.back f.pair f.end) ≡ true → pair_of (call_from kind f.back f.pair f.end) ≡ f.pair
+    go kinds.Empty e = absurd (false≢true e)
+    go kinds.Gate e = refl
+    go kinds.Upcall e = absurd (false≢true e)
 
 -- ---- labels in registers
 

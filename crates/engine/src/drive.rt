@@ -12,7 +12,7 @@ use labels::Bits;
 use model::numbers::REGISTER_COUNT;
 use model::{Control, Fixed};
 use pacing::setting::sets_label;
-use pacing::{is_once, is_stride, looked_at, relabels, tick_of};
+use pacing::{looked_at, relabels};
 use parts::calls::{OpenCall, deadline_of};
 use parts::live::Live;
 use parts::stages::Decision;
@@ -115,11 +115,11 @@ pub(in crate) fn drive(
 {
     let start = task.start;
     let pace = task.pace;
-    let once = is_once(pace);
-    let single = once | is_stride(pace);
+    let once = pace.is_once();
+    let single = once | pace.is_stride();
     let looked = looked_at(once, fixed.size);
     let limit = fixed.limit;
-    let tick = tick_of(pace, limit);
+    let tick = pace.tick(limit);
     let mut turned = turn(labels);
     let mut live = Live::from(start);
     if tick < live.clock {

@@ -26,34 +26,27 @@ pub enum Pace {
     Stride,
 }
 
-pub fn is_once(pace: Pace) -> bool
-    ensures { result ≡ is_once pace }
-{
-    match pace {
-        Pace::Once => true,
-        Pace::Onward(_) => false,
-        Pace::Stride => false,
+impl Pace {
+    pub fn is_once(self) -> bool
+        ensures { result ≡ is_once self }
+    {
+        matches!(self, Pace::Once)
     }
-}
 
-pub fn is_stride(pace: Pace) -> bool
-    ensures { result ≡ is_stride pace }
-{
-    match pace {
-        Pace::Once => false,
-        Pace::Onward(_) => false,
-        Pace::Stride => true,
+    pub fn is_stride(self) -> bool
+        ensures { result ≡ is_stride self }
+    {
+        matches!(self, Pace::Stride)
     }
-}
 
-// The tick by which a step has to finish.
-pub fn tick_of(pace: Pace, limit: u32) -> u32
-    ensures { (result ≡ tick_of pace limit) × (result ≤ limit) }
-{
-    match pace {
-        Pace::Once => limit,
-        Pace::Onward(tick) => nearer(tick, limit),
-        Pace::Stride => limit,
+    // The tick by which a step has to finish.
+    pub fn tick(self, limit: u32) -> u32
+        ensures { (result ≡ tick_of self limit) × (result ≤ limit) }
+    {
+        match self {
+            Pace::Once | Pace::Stride => limit,
+            Pace::Onward(tick) => nearer(tick, limit),
+        }
     }
 }
 
@@ -68,12 +61,5 @@ pub fn looked_at(once: bool, size: u32) -> u32
 pub fn relabels(reason: Reason) -> bool
     ensures { result ≡ relabels_at reason }
 {
-    match reason {
-        Reason::Out => false,
-        Reason::Late => false,
-        Reason::Outside => false,
-        Reason::Unreadable => false,
-        Reason::Failed => false,
-        Reason::Rest(w) => op_of(w) == RELABEL,
-    }
+    matches!(reason, Reason::Rest(w) if op_of(w) == RELABEL)
 }

@@ -17,8 +17,7 @@ fn is_timely(clock: u32, call: Call) -> bool
     ensures { result ≡ is_timely clock call }
 {
     match call {
-        Call::Empty => true,
-        Call::Gate(_, _) => true,
+        Call::Empty | Call::Gate(_, _) => true,
         Call::Upcall(_, _, end) => clock as u64 <= end,
     }
 }
@@ -35,6 +34,7 @@ fn calls_fit(clock: u32, first: Call, second: Call) -> bool
 }
 
 // Whether the steps can be done with these words and labels.
+#[tactic(auto, unfolding(model::specs::WellFormed::lent_whole))]
 pub fn is_fitting(fixed: Fixed, start: Control, words: &[u32], marks: &[Bits]) -> bool
     ensures { result ≡ fitting (state_from fixed start [] [] words.now marks.now) }
 {

@@ -50,11 +50,11 @@ abbrev AskedAt : At-loop-live → Pace → Type 0
 AskedAt c p =
     Asked p c.is_once-once.result
     (c.is_once-once.result || c.is_stride.result)
-    (started c).args.fixed.limit c.tick_of-tick.result
+    (started c).args.fixed.limit c.tick-tick.result
 
 -- The task from the control that the loop began with, at a pace.
 abbrev task_at : At-loop-live → Pace → Task
-task_at c p = record { start = control_of c.live_of-live.result; pace = p }
+task_at c p = record { start = control_of c.from-live.result; pace = p }
 
 -- So is the task's own pace.
 asked : (c : At-loop-live) → AskedAt c (started c).args.task.pace
@@ -62,12 +62,12 @@ asked c =
     record {
       once_is = c.is_once-once.ensures;
       single_is = ap₂ ◌||◌ c.is_once-once.ensures c.is_stride.ensures;
-      tick_is = c.tick_of-tick.ensures.0;
+      tick_is = c.tick-tick.ensures.0;
     }
 
 -- The control that the loop began with is the start's.
-lives : (c : At-loop-live) → Lives (started c).args.task.start c.live_of-live.result
-lives c = frames.lives _ c.live_of-live.ensures (started c).requires.stacked
+lives : (c : At-loop-live) → Lives (started c).args.task.start c.from-live.result
+lives c = frames.lives _ c.from-live.ensures (started c).requires.stacked
 
 -- What holds at the loop's test.
 went : (c : At-loop-live) (p : Pace) → AskedAt c p
@@ -190,12 +190,12 @@ module _ (c : After-control_after-live) where
 
 pub returns-then-tick-live : goal.returns-then-tick-live
 returns-then-tick-live c =
-    past_start c.args.task c.requires (frames.lives _ c.live_of-live.ensures c.requires.stacked)
-    c.tick_of-tick.ensures.0 c.if-tick-live.true
+    past_start c.args.task c.requires (frames.lives _ c.from-live.ensures c.requires.stacked)
+    c.tick-tick.ensures.0 c.if-tick-live.true
 
 pub loop-live-init : goal.loop-live-init
 loop-live-init c =
-    going_start c.requires (frames.lives _ c.live_of-live.ensures c.requires.stacked) c.turn-turned.ensures c.if-tick-live.false
+    going_start c.requires (frames.lives _ c.from-live.ensures c.requires.stacked) c.turn-turned.ensures c.if-tick-live.false
 
 pub alone-deadline-requires : goal.alone-deadline-requires
 alone-deadline-requires c =
@@ -226,7 +226,7 @@ returns-then-there-place c =
     driven l
     (went_paused (went l _ (asked l)) (runs a) (due a _ (asked l)) (context s) (place s) s.sprint-pause.ensures
     c.moved-live.ensures (ends_as s.sprint-pause.result.place.left s.sprint-pause.result.reason (asked l) (place s) c.relabels.ensures)
-    c.if-there-place.true c.control_of.ensures)
+    c.if-there-place.true c.from.ensures)
 
 pub is_barred-requires : goal.is_barred-requires
 is_barred-requires c =
@@ -249,7 +249,7 @@ returns-then-is_barred c =
     driven l
     (went_barred (went l _ (asked l)) (runs a) (due a _ (asked l)) (context s) (place s) s.sprint-pause.ensures
     c.moved-live.ensures {decision = c.decide-decision.result} (record { is = c.decide-decision.ensures.0; applies = c.decide-decision.ensures.1 }) (asked l).tick_is
-    c.is_barred.ensures c.if-is_barred.true c.control_of-then-is_barred.ensures)
+    c.is_barred.ensures c.if-is_barred.true c.from-then-is_barred.ensures)
 
 pub shape_of-words-then-single : goal.shape_of-words-then-single
 shape_of-words-then-single c = long (goal.at.shape_of-words-then-single c).After-sprint-pause
@@ -258,7 +258,7 @@ pub returns-then-single : goal.returns-then-single
 returns-then-single c =
     let k = (goal.at.returns-then-single c).After-control_after-live in
     let l = test k in
-    driven l (single_now k _ (asked l) (sym (asked l).single_is ∙ c.if-single.true) c.control_of-then-single.ensures)
+    driven l (single_now k _ (asked l) (sym (asked l).single_is ∙ c.if-single.true) c.from-then-single.ensures)
 
 pub loop-live-smaller-then-sets_label : goal.loop-live-smaller-then-sets_label
 loop-live-smaller-then-sets_label c = let k = (goal.at.loop-live-smaller-then-sets_label c).After-control_after-live in fewer_now k _ (asked (test k))
@@ -282,4 +282,4 @@ shape_of-words c = let l = (goal.at.shape_of-words c).At-loop-live in (went l _ 
 pub returns : goal.returns
 returns c =
     let l = (goal.at.returns c).At-loop-live in
-    driven l (went_ended (went l _ (asked l)) c.loop-live-test.false c.control_of-2.ensures)
+    driven l (went_ended (went l _ (asked l)) c.loop-live-test.false c.from-2.ensures)
