@@ -6,12 +6,13 @@ use native.Mathlib.Numerals.{add-one}
 use native.Mathlib.Omega.{arith}
 use mathlib.Core.Path.{◌≡◌, refl, sym, ◌∙◌}
 use mathlib.Core.Logic.{⊎_elim}
-use mathlib.Core.Bool.{true, false, ◌&&◌}
+use mathlib.Core.Bool.{true}
 use mathlib.Core.List.{List, [], ◌∷◌, ◌++◌}
 use lib.Dec.{eqb}
-use lib.ListN.{length, take, drop, get_or, set, length-set, length-append, drop_of_length-le, get_or-append}
-use lib.Seq.{take-suc, take-suc-set, take_all, drop-cons, get_or_at}
-use borrow.Author.Tests.{eq-eqb, ne_eqb, eqb-true}
+use lib.ListN.{length, take, drop, get_or, set, length-set, length-append, get_or-append}
+use lib.Seq.{take-suc, take-suc-set, take_all, get_or_at}
+use borrow.Author.Tests.{eq-eqb, eqb-true}
+use Rattle.std.specs.List.{starts_with}
 use Rattle.model.proofs.Truth.{and_iff}
 use Rattle.decoder.specs.Held.{tabulate, begins}
 
@@ -78,26 +79,12 @@ module _ {A : Type 0} where
 
 -- ---- one list begins with another
 
-module _ (ws b : List ℕ) (k : ℕ) where
-  both : k < length ws → k < length b
-      → begins (drop k ws) (drop k b) ≡ (eqb (get_or ws k 0) (get_or b k 0) && begins (drop (k + 1) ws) (drop (k + 1) b))
-  unfolding begins
-  both p q = rw (add-one k, drop-cons ws k 0 p, drop-cons b k 0 q) refl
-
-  pub begins_differ : k < length ws → k < length b → (get_or ws k 0 ≡ get_or b k 0 → ⊥) → begins (drop k ws) (drop k b) ≡ false
-  begins_differ p q ne = both p q ∙ rw (ne_eqb _ _ ne) refl
-
-  pub begins_more : k < length ws → k < length b → get_or ws k 0 ≡ get_or b k 0
-      → begins (drop k ws) (drop k b) ≡ begins (drop (k + 1) ws) (drop (k + 1) b)
-  begins_more p q e = both p q ∙ rw (eq-eqb _ _ e) refl
-
-  pub begins_short : k < length ws → length b ≤ k → begins (drop k ws) (drop k b) ≡ false
-  unfolding begins
-  begins_short p q = rw (drop-cons ws k 0 p, drop_of_length-le b q) refl
-
-  pub begins_end : length ws ≤ k → begins (drop k ws) (drop k b) ≡ true
-  unfolding begins
-  begins_end p = rw (drop_of_length-le ws p) refl
+-- As the library's test has it.
+pub begins_is : (ws b : List ℕ) → starts_with eqb b ws ≡ begins ws b
+unfolding begins
+begins_is [] b = refl
+begins_is (w ∷ ws) [] = refl
+begins_is (w ∷ ws) (x ∷ b) = rw (begins_is ws b)
 
 -- A list begins with itself.
 pub begins_itself : (xs ys : List ℕ) → begins xs (xs ++ ys) ≡ true

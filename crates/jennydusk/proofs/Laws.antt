@@ -1,5 +1,6 @@
 -- From what the functions below promise to what the calls promise.
 -- Assumes nothing.
+use Rattle.std.specs.Prelude.{Some, None}
 use Prim.Native.Nat.{ℕ, ◌+◌, ◌^◌, ◌≤◌, ◌<◌}
 use mathlib.Core.Path.{◌≡◌, refl, ap, ◌∙◌}
 use mathlib.Core.List.{List, [], ◌∷◌}
@@ -23,12 +24,10 @@ use Rattle.certify.specs.declared.Certified.{Certified}
 use Rattle.certify.specs.Certified.{certificate_of, certifying_of}
 use Rattle.view.specs.declared.Viewed.{Viewed}
 use Rattle.view.specs.Viewed.{viewed_of}
-use Rattle.decoder.specs.declared.Reading.{Reading}
-use Rattle.decoder.specs.declared.Found.TheVariants as found
+use Rattle.machine_record.specs.declared.Machine as struct
 use Rattle.decoder.specs.Held.{Holding, holds, nothing}
-use Rattle.decoder.specs.Reading.{given, read_of}
+use Rattle.decoder.specs.Reading.{Read, given, read_of}
 use Rattle.record_calls.specs.RecordCalls.{no_record, Left, left, kept}
-use Rattle.record_calls.proofs.Laws.{no_record_lem, some_record, same_record}
 use Rattle.load_calls.specs.Loads.{counted, after_loading, LeftLine, after_loading_hex}
 use Rattle.jennydusk.specs.Calls.{certificate_span, holding_certificate, after_certifying, shown, after_printing, unwritten, printed, looked, after_viewing, view_call}
 use Rattle.jennydusk.proofs.Length.{bytes_most}
@@ -73,21 +72,22 @@ pub small_length :
     → print.printing_of a after ≡ listing.print_for ℓ r m before → a.bytes < 2 ^ 32
 small_length ℓ r m before a after e = rw (ap (λ (z : listing.Printing). z.bytes) e) (bytes_most ℓ r m before)
 
-module _ (ℓ : ℕ) (m : Bank) (before : List ℕ) (x : Reading) where
+module _ (ℓ : ℕ) (m : Bank) (before : List ℕ) where
   -- A buffer that holds no record.
-  pub not_printed_lem : (h : Holding) → read_of x ≡ given h → x.found ≡ found.Nothing → unwritten before no_record ≡ printed ℓ h m before
-  not_printed_lem (holds r) e n = no_record_lem x e n
-  not_printed_lem nothing e n = refl
+  pub not_printed_lem : (h : Holding) → read_of None ≡ given h → unwritten before no_record ≡ printed ℓ h m before
+  not_printed_lem (holds r) e = cc (ap (λ (y : Read). y.found) e)
+  not_printed_lem nothing e = refl
 
   -- A buffer that holds one.
   pub was_printed :
-      (h : Holding) (a : Printed) {number length answer : ℕ} {after : List ℕ} → read_of x ≡ given h → x.found ≡ found.Record
-      → print.printing_of a after ≡ listing.print_for ℓ (record_of x.machine) m before → number ≡ number_of a.outcome
-      → length ≡ a.bytes → answer ≡ counted number length → shown answer after ≡ printed ℓ h m before
-  was_printed (holds r) a e n s k l c =
+      (h : Holding) (machine : struct.Machine) (a : Printed) {number length answer : ℕ} {after : List ℕ}
+      → read_of (Some machine) ≡ given h → print.printing_of a after ≡ listing.print_for ℓ (record_of machine) m before
+      → number ≡ number_of a.outcome → length ≡ a.bytes → answer ≡ counted number length
+      → shown answer after ≡ printed ℓ h m before
+  was_printed (holds r) machine a e s k l c =
       rw (c, k, l)
-      (ap after_printing (s ∙ ap (λ (y : Machine). listing.print_for ℓ y m before) (same_record x e)))
-  was_printed nothing a e n s k l c = some_record x e n
+      (ap after_printing (s ∙ ap (λ (y : Machine). listing.print_for ℓ y m before) (ap (λ (y : Read). y.machine) e)))
+  was_printed nothing machine a e s k l c = cc (ap (λ (y : Read). y.found) e)
 
 -- ---- view
 

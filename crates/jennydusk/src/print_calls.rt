@@ -3,7 +3,6 @@ ghost use Rattle.std.specs.Prelude.{◌≡◌};
 ghost use Rattle.model.specs.Record.{lent};
 ghost use Rattle.jennydusk.specs.Calls.{shown, print_for_call, print_call};
 
-use decoder::Found;
 use labels::{Bits, Label};
 use load_calls::counted;
 use printer::print_for;
@@ -23,12 +22,9 @@ pub extern "C" fn jennydusk_print_for(
     if is_short(record, RECORD_SPAN) {
         return SHORT_BUFFER;
     }
-    let reading = decoder::read(record);
-    let found = reading.found;
-    if let Found::Nothing = found {
+    let Some(machine) = decoder::read(record) else {
         return no_record();
-    }
-    let machine = reading.machine;
+    };
     let printed = print_for(machine, label, words, labels, out);
     let outcome = printed.outcome;
     counted(outcome.number(), printed.bytes as u32)

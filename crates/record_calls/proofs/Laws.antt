@@ -1,5 +1,6 @@
 -- From what the functions below promise to what the calls over a record promise.
 -- Assumes nothing.
+use Rattle.std.specs.Prelude.{Some, None}
 use Prim.Native.Nat.{ℕ, ◌≤◌}
 use mathlib.Core.Path.{◌≡◌, refl, sym, ap, ◌∙◌}
 use mathlib.Core.Bool.{Bool, true, false}
@@ -9,14 +10,12 @@ use borrow.Author.Tests.{ltb-false}
 use Rattle.causes.specs.Causes.{number_of}
 use Rattle.model.specs.Record.{Bank, Machine}
 use Rattle.model.specs.Answer as model
-use Rattle.model.proofs.Truth.{clash}
-use Rattle.machine.specs.declared.Answer as struct
+use Rattle.machine.specs.declared.Answer as answer
+use Rattle.machine_record.specs.declared.Machine as struct
 use Rattle.machine_record.specs.Struct.{record_of}
 use Rattle.machine.specs.Answered.{answered}
-use Rattle.decoder.specs.declared.Reading.{Reading}
-use Rattle.decoder.specs.declared.Found.TheVariants as found
 use Rattle.decoder.specs.Held.{Holding, holds, nothing}
-use Rattle.decoder.specs.Reading.{Read, given, is_found, read_of}
+use Rattle.decoder.specs.Reading.{Read, given, read_of}
 use Rattle.record_calls.specs.RecordCalls.{short_buffer, no_record, is_short, unless_short, left, untouched, kept_record, after_answer, called}
 
 -- ---- what a call that is lent a record or a certificate tries before everything else
@@ -33,31 +32,19 @@ pub is_long : (least : ℕ) (b : List ℕ) {test : Bool} → test ≡ is_short l
 unfolding is_short
 is_long least b is long = ltb-false (length b) least (sym is ∙ long)
 
--- ---- what reading a buffer tells
-
-module _ (x : Reading) where
-  pub no_record_lem : {r : Machine} {P : Type 0} → read_of x ≡ given (holds r) → x.found ≡ found.Nothing → P
-  no_record_lem e n = clash (ap (λ (y : Read). y.found) e) (ap is_found n)
-
-  pub some_record : {P : Type 0} → read_of x ≡ given nothing → x.found ≡ found.Record → P
-  some_record e n = clash (ap is_found n) (ap (λ (y : Read). y.found) e)
-
-  pub same_record : {r : Machine} → read_of x ≡ given (holds r) → record_of x.machine ≡ r
-  same_record e = ap (λ (y : Read). y.machine) e
-
 -- ---- step and run
 
-module _ (f : Machine → Bank → model.Answer) (b : List ℕ) (m : Bank) (x : Reading) where
+module _ (f : Machine → Bank → model.Answer) (b : List ℕ) (m : Bank) where
   -- A buffer that holds no record.
-  pub not_called : (h : Holding) → read_of x ≡ given h → x.found ≡ found.Nothing → untouched b m no_record ≡ called f h b m
-  not_called (holds r) e n = no_record_lem x e n
-  not_called nothing e n = refl
+  pub not_called : (h : Holding) → read_of None ≡ given h → untouched b m no_record ≡ called f h b m
+  not_called (holds r) e = cc (ap (λ (y : Read). y.found) e)
+  not_called nothing e = refl
 
   -- A buffer that holds one.
   pub was_called :
-      (h : Holding) (a : struct.Answer) {number : ℕ} {buffer words labels : List ℕ} → read_of x ≡ given h
-      → x.found ≡ found.Record → answered a words labels ≡ f (record_of x.machine) m → number ≡ number_of a.outcome
+      (h : Holding) (machine : struct.Machine) (a : answer.Answer) {number : ℕ} {buffer words labels : List ℕ}
+      → read_of (Some machine) ≡ given h → answered a words labels ≡ f (record_of machine) m → number ≡ number_of a.outcome
       → buffer ≡ kept_record a.outcome (record_of a.machine) b → left number buffer words labels ≡ called f h b m
-  was_called (holds r) a {number} {buffer} {words} {labels} e n s c k =
-      rw (k, c) (ap (λ (z : model.Answer). after_answer z b) (s ∙ ap (λ (y : Machine). f y m) (same_record x e)))
-  was_called nothing a e n s c k = some_record x e n
+  was_called (holds r) machine a e s c k =
+      rw (k, c) (ap (λ (z : model.Answer). after_answer z b) (s ∙ ap (λ (y : Machine). f y m) (ap (λ (y : Read). y.machine) e)))
+  was_called nothing machine a e s c k = cc (ap (λ (y : Read). y.found) e)

@@ -9,7 +9,6 @@ ghost use Rattle.machine_record.specs.Struct.{record_of};
 ghost use Rattle.record_calls.specs.RecordCalls.{is_short, no_record, left, kept_record, record_call};
 
 use causes::{Cause, Outcome};
-use decoder::Found;
 use labels::Bits;
 use machine::answer_of;
 use machine_record::Machine;
@@ -51,12 +50,9 @@ pub fn advanced(request: Request, record: &mut [u64], words: &mut [u32], labels:
     if is_short(record, RECORD_SPAN) {
         return SHORT_BUFFER;
     }
-    let reading = decoder::read(record);
-    let found = reading.found;
-    if let Found::Nothing = found {
+    let Some(machine) = decoder::read(record) else {
         return no_record();
-    }
-    let machine = reading.machine;
+    };
     let answer = answer_of(machine, request, words, labels);
     let outcome = answer.outcome;
     let next = answer.machine;

@@ -15,15 +15,14 @@ returns-then-is_short c =
     when_short (untouched c.args.«record».now (lent c.args.words.now c.args.labels.now)) span
     c.args.«record».now c.is_short.ensures _ c.if-is_short.true
 
-pub returns-in-Nothing : goal.returns-in-Nothing
+pub returns-in_default : goal.returns-in_default
 unfolding record_call reading.read
-returns-in-Nothing c =
+returns-in_default c =
     let buffer = c.args.«record».now in
     let memory = lent c.args.words.now c.args.labels.now in
     when_long (untouched buffer memory) span buffer c.is_short.ensures c.if-is_short.false
     (rw c.no_record.ensures
-    (not_called (answer_of c.args.request) buffer memory c.read-reading.result (machine_in buffer) c.read-reading.ensures
-    c.in-Nothing.is))
+    (not_called (answer_of c.args.request) buffer memory (machine_in buffer) (rw c.in_default.is at c.read.ensures)))
 
 pub returns : goal.returns
 unfolding record_call reading.read
@@ -31,6 +30,6 @@ returns c =
     let buffer = c.args.«record».now in
     let memory = lent c.args.words.now c.args.labels.now in
     when_long (untouched buffer memory) span buffer c.is_short.ensures c.if-is_short.false
-    (was_called (answer_of c.args.request) buffer memory c.read-reading.result (machine_in buffer)
-    c.answer_of-answer.result c.read-reading.ensures c.in_default.is c.answer_of-answer.ensures
+    (was_called (answer_of c.args.request) buffer memory (machine_in buffer) c.in-Some.machine
+    c.answer_of-answer.result (rw c.in-Some.is at c.read.ensures) c.answer_of-answer.ensures
     c.number.ensures c.keep.ensures)

@@ -18,21 +18,21 @@ unfolding print_for_call
 returns-then-is_short c =
     when_short (unwritten c.args.out.now) span c.args.«record».now c.is_short.ensures _ c.if-is_short.true
 
-pub returns-in-Nothing : goal.returns-in-Nothing
+pub returns-in_default : goal.returns-in_default
 unfolding print_for_call reading.read
-returns-in-Nothing c =
+returns-in_default c =
     let buffer = c.args.«record».now in
     let output = c.args.out.now in
     when_long (unwritten output) span buffer c.is_short.ensures c.if-is_short.false
     (rw c.no_record.ensures
-    (not_printed_lem c.args.label (lent c.args.words.now c.args.labels.now) output c.read-reading.result (machine_in buffer)
-    c.read-reading.ensures c.in-Nothing.is))
+    (not_printed_lem c.args.label (lent c.args.words.now c.args.labels.now) output (machine_in buffer)
+    (rw c.in_default.is at c.read.ensures)))
 
 pub overflow_cast-printed : goal.overflow_cast-printed
 overflow_cast-printed c =
     omega (
       arith,
-      small_length c.args.label (record_of c.read-reading.result.machine) (lent c.args.words.now c.args.labels.now) c.args.out.now
+      small_length c.args.label (record_of c.in-Some.machine) (lent c.args.words.now c.args.labels.now) c.args.out.now
           c.print_for-printed.result _ c.print_for-printed.ensures,
     )
 
@@ -42,6 +42,6 @@ returns c =
     let buffer = c.args.«record».now in
     let output = c.args.out.now in
     when_long (unwritten output) span buffer c.is_short.ensures c.if-is_short.false
-    (was_printed c.args.label (lent c.args.words.now c.args.labels.now) output c.read-reading.result (machine_in buffer)
-    c.print_for-printed.result c.read-reading.ensures c.in_default.is c.print_for-printed.ensures
+    (was_printed c.args.label (lent c.args.words.now c.args.labels.now) output (machine_in buffer) c.in-Some.machine
+    c.print_for-printed.result (rw c.in-Some.is at c.read.ensures) c.print_for-printed.ensures
     c.number.ensures refl c.counted.ensures)
