@@ -1,6 +1,6 @@
 -- Laws about the hot loop: what holds whenever its test is reached, and what it promises where it pauses.
 -- Assumes nothing.
-use Rattle.std.proofs.Common.{◌≡◌, ℕ, zero, suc, ◌+◌, ◌-◌, ◌<◌, ◌≤◌, Bool, true, false, cond, ◌||◌, ltb, ◌⊎◌, List, length, get_or, sym, refl, ap, ◌∙◌, ap₂, subst₂, inl, inr, arith, ltb-false, ltb-true, le-ltb, lt-ltb}
+use Rattle.std.proofs.Common.{◌≡◌, ℕ, zero, suc, ◌+◌, ◌-◌, ◌<◌, ◌≤◌, Bool, true, false, cond, ◌||◌, ltb, ◌⊎◌, List, length, get_or, sym, refl, ap, ◌∙◌, ap₂, subst, subst₂, inl, inr, arith, ltb-false, ltb-true, le-ltb, lt-ltb}
 use Rattle.principals.specs.Principals.{may_go}
 use Rattle.labels.specs.Label.{principals, label_count, restrictions, lacking, flows}
 use Rattle.principals.proofs.Whole.{restricted_flows}
@@ -17,6 +17,7 @@ use Rattle.turns.specs.declared.Context.{Context}
 use Rattle.sprint.specs.declared.Place.{Place}
 use Rattle.sprint.specs.declared.Pause.{Pause}
 use Rattle.turns.specs.declared.Turn.{Turn}
+use Rattle.turns.specs.declared.Turn.TheVariants.{Going, Stopping}
 use Rattle.turns.specs.Turned.{Mirrors}
 use Rattle.sprint.specs.Skim.{is_common, Skim, skim}
 use Rattle.sprint.specs.Sprint.{state_with, Timed, Stopped, Paused, Ran, Sprinted}
@@ -153,16 +154,16 @@ module _ {context : Context} {turned marks : List ℕ} {start : Place} {values�
 
   module _ {turn : Turn} {values' words' : List ℕ} (h : Does context turned marks pc left values words turn values' words') where
     -- After a turn that did a step.
-    pub runs_more : turn.done ≡ true → (0 < turn.ticks) × (turn.ticks < left) → length words' ≡ length words
-        → Runs context turned marks start.pc start.left values₀ words₀ turn.pc (left - turn.ticks) values' words'
-    runs_more e f l =
+    pub runs_more : {pc' ticks : ℕ} → turn ≡ Going pc' ticks → (0 < ticks) × (ticks < left) → length words' ≡ length words
+        → Runs context turned marks start.pc start.left values₀ words₀ pc' (left - ticks) values' words'
+    runs_more {pc'} {ticks} e f l =
         record {
           run =
               λ d s labels m t.
               let k = r.run d s labels m t in
               let b : left ≤ context.deadline + 1 = omega (arith, r.fewer, d) in
-              let g = (h s labels m b (timed_now s labels t)).goes e in
-              let clock : context.deadline + 1 - left + turn.ticks ≡ context.deadline + 1 - (left - turn.ticks) =
+              let g = subst (λ (x : Turn). Did (state_with s context pc left values labels words marks) context.deadline left x values' words') e (h s labels m b (timed_now s labels t)) in
+              let clock : context.deadline + 1 - left + ticks ≡ context.deadline + 1 - (left - ticks) =
               omega (arith, b, f) in
               record {
                 count = suc k.count;
@@ -179,19 +180,19 @@ module _ {context : Context} {turned marks : List ℕ} {start : Place} {values�
         }
 
     -- After one that did none.
-    pub stopped_turn : {pause : Pause} → pause ≡ record { place = record { pc = pc; left = left }; reason = turn.reason } → turn.done ≡ false
+    pub stopped_turn : {reason : Reason} {pause : Pause} → pause ≡ record { place = record { pc = pc; left = left }; reason = reason } → turn ≡ Stopping reason
         → Sprinted context start values₀ turned words₀ marks pause values' words'
-    stopped_turn q e =
+    stopped_turn {reason} q e =
         rw q (record {
           short = λ x. clash r.whole x;
           ran =
               λ a d s labels m t.
               let k = r.run d s labels m t in
-              let x = (h s labels m (omega (arith, r.fewer, d)) (timed_now s labels t)).stops e in
+              let x = subst (λ (x : Turn). Did (state_with s context pc left values labels words marks) context.deadline left x values' words') e (h s labels m (omega (arith, r.fewer, d)) (timed_now s labels t)) in
               subst₂
               (λ (v w : List ℕ).
               Ran (state_with s context start.pc start.left values₀ labels words₀ marks)
-              (state_with s context pc left v labels w marks) context.deadline start.left left turn.reason)
+              (state_with s context pc left v labels w marks) context.deadline start.left left reason)
               (sym x.registers) (sym x.memory)
               (record {
                 count = k.count;
@@ -199,7 +200,7 @@ module _ {context : Context} {turned marks : List ℕ} {start : Place} {values�
                 took = k.took;
                 still = k.still;
                 some = r.some;
-                paused = pauses turn.reason left context.deadline _ x.reason;
+                paused = pauses reason left context.deadline _ x.reason;
               });
         })
 

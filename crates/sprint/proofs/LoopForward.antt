@@ -1,30 +1,26 @@
 -- Laws about the turns that functions of the hot loop answer: one that did a step took a tick or more, and fewer than
 -- were left. Assumes nothing.
 use Rattle.std.proofs.Common.{◌≡◌, ℕ, ◌<◌, Bool, not, ◌&&◌, ltb, sym, subst, arith, ltb-true}
-use mathlib.Core.Bool.{false≢true}
 use Rattle.model.proofs.Truth.{choice}
 use Rattle.parts.specs.declared.stages.Reason.{Reason}
 use Rattle.parts.specs.declared.stages.Reason.TheVariants.{Late, Failed}
 use Rattle.turns.specs.declared.Spot.{Spot}
 use Rattle.turns.specs.declared.Turn.{Turn}
-use Rattle.turns.specs.Turns.{next, going, stopping, timed, gone}
+use Rattle.turns.specs.declared.Turn.TheVariants.{Going, Stopping}
+use Rattle.turns.specs.Turns.{next, timed, gone}
 use Rattle.sprint.specs.Inner.Turns.{Forward}
 
 module _ (spot : Spot) where
-  -- A turn that did no step.
-  stays : (reason : Reason) → Forward spot (stopping reason)
-  stays reason e = absurd (false≢true e)
-
   -- One that did a step if its ticks are fewer than were left.
   in_time_lem : (ticks pc : ℕ) → 0 < ticks → Forward spot (timed ticks pc spot.left)
   in_time_lem ticks pc p =
-      choice (Forward spot) (ltb ticks spot.left) (going pc ticks) (stopping Late)
-      (λ q e. (p, ltb-true ticks spot.left q)) (λ q. stays Late)
+      choice (Forward spot) (ltb ticks spot.left) (Going pc ticks) (Stopping Late)
+      (λ q. (p, ltb-true ticks spot.left q)) (λ q. tt)
 
   module _ {r : Turn} where
     -- The same of an answer: no step.
-    pub stopping_forward : (reason : Reason) → r ≡ stopping reason → Forward spot r
-    stopping_forward reason e = subst (Forward spot) (sym e) (stays reason)
+    pub stopping_forward : (reason : Reason) → r ≡ Stopping reason → Forward spot r
+    stopping_forward reason e = subst (Forward spot) (sym e) tt
 
     -- A step in so many ticks.
     pub timed_forward : (ticks pc : ℕ) → 0 < ticks → r ≡ timed ticks pc spot.left → Forward spot r
@@ -37,5 +33,5 @@ module _ (spot : Spot) where
         subst (Forward spot) (sym e)
         (choice (Forward spot) (ok && taken) (timed 1 target spot.left) _ (λ q. in_time_lem 1 target (omega arith))
         (λ q.
-        choice (Forward spot) (not ok && up) (stopping Failed) (timed 1 (next spot) spot.left) (λ x. stays Failed)
+        choice (Forward spot) (not ok && up) (Stopping Failed) (timed 1 (next spot) spot.left) (λ x. tt)
         (λ x. in_time_lem 1 (next spot) (omega arith))))

@@ -1,8 +1,7 @@
 -- Laws about a turn of the hot loop: when a step of the model is the change that a common op carries out, and what
 -- holds where the op would finish past the deadline.
 -- Assumes nothing.
-use Rattle.std.proofs.Common.{◌≡◌, ℕ, ◌+◌, ◌-◌, ◌%◌, ◌^◌, ◌<◌, ◌≤◌, Bool, true, false, cond, not, ◌&&◌, ltb, List, get_or, set, sym, refl, ap, ◌∙◌, subst, true≢false, arith, ltb-false, ltb-true, le-ltb, eq-eqb, ne_eqb}
-use mathlib.Core.Bool.{false≢true}
+use Rattle.std.proofs.Common.{◌≡◌, ℕ, ◌+◌, ◌-◌, ◌%◌, ◌^◌, ◌<◌, ◌≤◌, Bool, true, false, cond, not, ◌&&◌, ltb, List, get_or, set, sym, refl, ap, ◌∙◌, subst, arith, ltb-false, ltb-true, le-ltb, eq-eqb, ne_eqb}
 use lib.Bits.{bit_or}
 use Rattle.principals.specs.Principals.{may_go}
 use Rattle.labels.specs.Label.{label_count, restrictions, lacking}
@@ -19,8 +18,9 @@ use Rattle.parts.specs.Stages.{is_common_op, fetches_common}
 use Rattle.turns.specs.declared.Context.{Context}
 use Rattle.turns.specs.declared.Spot.{Spot}
 use Rattle.turns.specs.declared.Turn.{Turn}
+use Rattle.turns.specs.declared.Turn.TheVariants.{Going, Stopping}
 use Rattle.turns.specs.Turned.{Mirrors}
-use Rattle.turns.specs.Turns.{next, going, stopping, timed, gone, taken, assigned, immediate_taken, combined_taken}
+use Rattle.turns.specs.Turns.{next, timed, gone, taken, assigned, immediate_taken, combined_taken}
 use Rattle.turns.proofs.Assigning.{assigned_is, assigned_turn}
 use Rattle.turns.proofs.Checks.{Holds, Lacks, one_goes, both_go, two_go, three_go, three_go_right}
 use Rattle.turns.proofs.Fields.{a_below, b_below, c_below}
@@ -115,37 +115,30 @@ module _ {s : State} {context : Context} {left : ℕ} (h : Due s context left) w
       turn t pc' values' words' e er ev ew = rw (er, ev, ew) (go (ltb k left) refl)
         where
           go : (b : Bool) → ltb k left ≡ b
-              → Did s context.deadline left (cond b (going pc' k) (stopping Late)) (cond b values' s.registers.values)
+              → Did s context.deadline left (cond b (Going pc' k) (Stopping Late)) (cond b values' s.registers.values)
               (cond b words' s.memory.values)
           go true q =
               let l : k < left = ltb-true k left q in
               let d : s.control.clock + k ≤ context.deadline = omega (arith, l, h.clock) in
-              record {
-                goes = λ x. record { common = common_here d; steps = carried d ∙ e; some = p; less = l };
-                stops = λ x. absurd (true≢false x);
-              }
+              record { common = common_here d; steps = carried d ∙ e; some = p; less = l }
           go false q =
               let l : left ≤ k = ltb-false k left q in
               record {
-                goes = λ x. absurd (false≢true x);
-                stops =
-                    λ x. record {
-                      reason =
-                          record {
-                            word = w;
-                            op = op;
-                            ticks = k;
-                            change = change;
-                            fetches = f;
-                            common = c;
-                            tries = a;
-                            long = t;
-                            some = p;
-                            past = omega (arith, l, h.clock);
-                          };
-                      registers = refl;
-                      memory = refl;
+                reason =
+                    record {
+                      word = w;
+                      op = op;
+                      ticks = k;
+                      change = change;
+                      fetches = f;
+                      common = c;
+                      tries = a;
+                      long = t;
+                      some = p;
+                      past = omega (arith, l, h.clock);
                     };
+                registers = refl;
+                memory = refl;
               }
 
 -- ---- the changes of the common ops
@@ -222,7 +215,7 @@ module _ {s : State} {context : Context} {left w : ℕ} {op : Op} (h : Due s con
 
   -- A branch that is taken or not, or a jump.
   goes_row : (ok taken : Bool) (n : ℕ) {r : Turn} {values words : List ℕ}
-      → r ≡ cond (ok && taken) (timed 1 n left) (cond (not ok && context.up) (stopping Failed) (timed 1 (s.control.pc + 1) left))
+      → r ≡ cond (ok && taken) (timed 1 n left) (cond (not ok && context.up) (Stopping Failed) (timed 1 (s.control.pc + 1) left))
       → table s w op ≡ strict_row ok (does (goto (cond taken n (s.control.pc + 1)))) 1 → values ≡ s.registers.values
       → words ≡ s.memory.values → Did s context.deadline left r values words
   goes_row ok taken n {r} {values} {words} er t ev ew = go ok taken context.up t h.timed.upcall er
@@ -231,7 +224,7 @@ module _ {s : State} {context : Context} {left w : ℕ} {op : Op} (h : Due s con
       ticks q = ap (λ (y : Row). y.ticks) q
 
       go : (b d u : Bool) → table s w op ≡ strict_row b (does (goto (cond d n (s.control.pc + 1)))) 1 → in_upcall s.control ≡ u
-          → r ≡ cond (b && d) (timed 1 n left) (cond (not b && u) (stopping Failed) (timed 1 (s.control.pc + 1) left))
+          → r ≡ cond (b && d) (timed 1 n left) (cond (not b && u) (Stopping Failed) (timed 1 (s.control.pc + 1) left))
           → Did s context.deadline left r values words
       go true true u t e er =
           turn h 1 (goto n) f c (go_taken t) (omega arith) (ticks t) n _ _ (apply_goto s n 1) er (kept (ltb 1 left) ev) (kept (ltb 1 left) ew)
@@ -243,10 +236,7 @@ module _ {s : State} {context : Context} {left w : ℕ} {op : Op} (h : Due s con
           (kept (ltb 1 left) ev) (kept (ltb 1 left) ew)
       go false d true t e er =
           rw (er, ev, ew)
-          (record {
-            goes = λ x. absurd (false≢true x);
-            stops = λ x. record { reason = (go_failed t e, ap fetches_common f ∙ c, e); registers = refl; memory = refl };
-          })
+          (record { reason = (go_failed t e, ap fetches_common f ∙ c, e); registers = refl; memory = refl })
 
 -- ---- the common ops, by the numbers of their registers
 
@@ -391,8 +381,8 @@ module _ {s : State} {context : Context} {spot : Spot} {values labels turned wor
 -- ---- the other ops
 
 -- A turn that leaves the state.
-pub stays : (s : State) (deadline left : ℕ) (why : Reason) {r : Turn} → r ≡ stopping why → Stopped why deadline s
+pub stays : (s : State) (deadline left : ℕ) (why : Reason) {r : Turn} → r ≡ Stopping why → Stopped why deadline s
     → Did s deadline left r s.registers.values s.memory.values
 stays s deadline left why q e =
     subst (λ (r : Turn). Did s deadline left r s.registers.values s.memory.values) (sym q)
-    (record { goes = λ x. absurd (false≢true x); stops = λ x. record { reason = e; registers = refl; memory = refl } })
+    (record { reason = e; registers = refl; memory = refl })

@@ -14,7 +14,7 @@ use model::numbers::REGISTER_COUNT;
 use ops::common;
 use parts::stages::Reason;
 use parts::word::index;
-use turns::{Context, Spot, TURNED_COUNT};
+use turns::{Context, Spot, TURNED_COUNT, Turn};
 
 // Where the loop stands: the pc, and how many ticks are left to the deadline, the present one counted.
 #[derive(Clone, Copy)]
@@ -62,22 +62,20 @@ pub fn sprint(
             return pausing(Reason::Outside, pc, left);
         }
         let at = index(pc);
-        if may_go(Label(marks[at]).restrictions(), lacked) {
-            let spot = Spot {
-                word: words[at],
-                pc,
-                left,
-            };
-            let turn = common(spot, context, values, turned, words, marks);
-            if turn.done {
-                pc = turn.pc;
-                left -= turn.ticks;
-            } else {
-                let reason = turn.reason;
-                return pausing(reason, pc, left);
-            }
-        } else {
+        if !may_go(Label(marks[at]).restrictions(), lacked) {
             return pausing(Reason::Unreadable, pc, left);
+        }
+        let spot = Spot {
+            word: words[at],
+            pc,
+            left,
+        };
+        match common(spot, context, values, turned, words, marks) {
+            Turn::Going { pc: there, ticks } => {
+                pc = there;
+                left -= ticks;
+            }
+            Turn::Stopping(reason) => return pausing(reason, pc, left),
         }
     }
     pausing(Reason::Out, pc, left)

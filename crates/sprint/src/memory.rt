@@ -6,9 +6,8 @@ ghost use Rattle.sprint.specs.Inner.Turns.{LoadTurn, StoreTurn};
 
 use labels::{Bits, Label, may_go};
 use model::numbers::REGISTER_COUNT;
-use parts::stages::Reason;
 use parts::word::{a_of, b_of, index};
-use turns::{Context, Spot, TURNED_COUNT, Turn, assign, going, next, stopping};
+use turns::{Context, MEMORY_TICKS, Spot, TURNED_COUNT, Turn, assign, next, timed};
 
 // Op 9: register a gets word Rb, where that is inside memory and the check passes.
 pub(in crate) fn load(
@@ -30,9 +29,9 @@ pub(in crate) fn load(
         let at = index(rb);
         let held = Label(pair.pc).restrictions() | turned[b] | Label(marks[at]).restrictions();
         let ok = may_go(held, turned[a + REGISTER_COUNT]);
-        return assign(values, spot, a, ok, words[at], 3);
+        return assign(values, spot, a, ok, words[at], MEMORY_TICKS);
     }
-    assign(values, spot, a, false, 0, 3)
+    assign(values, spot, a, false, 0, MEMORY_TICKS)
 }
 
 // Word `to` gets v, where that is inside memory and what is under these restrictions may go there.
@@ -63,10 +62,9 @@ pub(in crate) fn store(
     let pair = context.pair;
     let a = a_of(spot.word);
     let b = b_of(spot.word);
-    if 3 < spot.left {
+    if MEMORY_TICKS < spot.left {
         let held = Label(pair.pc).restrictions() | turned[b] | turned[a];
         put_word(words, marks, context.size, values[b], held, values[a]);
-        return going(next(spot), 3);
     }
-    stopping(Reason::Late)
+    timed(MEMORY_TICKS, next(spot), spot.left)
 }

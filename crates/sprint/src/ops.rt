@@ -8,8 +8,7 @@ use labels::{Bits, Label, may_go};
 use model::numbers::REGISTER_COUNT;
 use parts::stages::Reason;
 use parts::word::{a_of, b_of, n_of, op_of};
-use std::num::{wrapping_add_u32, wrapping_sub_u32};
-use turns::{Context, Spot, TURNED_COUNT, Turn, assign, combine, go, immediate, stopping};
+use turns::{Context, Spot, TURNED_COUNT, Turn, assign, combine, go, immediate};
 
 // A word without an op.
 const NO_OP: u32 = 0;
@@ -27,7 +26,7 @@ fn read_clock(
     let a = a_of(spot.word);
     let held = Label(pair.pc).restrictions() | Label(pair.timing).restrictions();
     let ok = may_go(held, turned[a + REGISTER_COUNT]);
-    let clock = wrapping_sub_u32(wrapping_add_u32(context.deadline, 1), spot.left);
+    let clock = context.deadline.wrapping_add(1).wrapping_sub(spot.left);
     assign(values, spot, a, ok, clock, 1)
 }
 
@@ -50,7 +49,7 @@ pub(in crate) fn common(
     let a = a_of(w);
     let b = b_of(w);
     match op_of(w) {
-        0 => stopping(Reason::Rest(NO_OP)),
+        0 => Turn::Stopping(Reason::Rest(NO_OP)),
         1 => immediate(spot, pair, values, turned),
         2 => combine(Arithmetic::Add, spot, pair, values, turned),
         3 => combine(Arithmetic::Subtract, spot, pair, values, turned),
@@ -76,6 +75,6 @@ pub(in crate) fn common(
         14 => read_clock(spot, context, values, turned),
         23 => combine(Arithmetic::Divide, spot, pair, values, turned),
         24 => combine(Arithmetic::Remainder, spot, pair, values, turned),
-        _ => stopping(Reason::Rest(w)),
+        _ => Turn::Stopping(Reason::Rest(w)),
     }
 }

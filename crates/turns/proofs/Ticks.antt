@@ -1,6 +1,6 @@
 -- Laws about the ticks of the common ops: the ticks by an op's number are those of the model's row.
 -- Assumes nothing.
-use Rattle.std.proofs.Common.{◌≡◌, ℕ, zero, suc, ◌+◌, ◌<◌, ◌≤◌, Bool, true, false, List, [], ◌∷◌, get_or, refl, ap, ◌∙◌, arith}
+use Rattle.std.proofs.Common.{◌≡◌, ℕ, zero, suc, ◌+◌, ◌<◌, ◌≤◌, Bool, true, false, ltb, List, [], ◌∷◌, get_or, refl, ap, ◌∙◌, ⊎_elim, arith, ltb-false, ltb-true}
 use mathlib.Core.Bool.{false≢true}
 use mathlib.Core.Option.{Option, none, some}
 use lib.Bits.{bit_or}
@@ -11,6 +11,7 @@ use Rattle.model.specs.Record.{State, value_at, label_at}
 use Rattle.model.specs.Word.{add, subtract, and, or, xor, less, multiply, divide, remainder, equal, below, raise, relabel, Op, immediate, arithmetic, load, store, branch, jump, read_clock, set_label, set_pair, upcall, end_upcall, gate_call, gate_return, halt, ops, op_field, b_field, c_field, decode}
 use Rattle.model.specs.Ops.{multiply_ticks, arithmetic_ticks, visible, table}
 use Rattle.model.proofs.Multiply.{count_le}
+use Rattle.model.proofs.Truth.{either}
 use Rattle.model.specs.Step.{Fetched, failed, fetched, known}
 use Rattle.parts.specs.Stages.{is_common_op}
 use Rattle.turns.specs.Turned.{Mirrors}
@@ -131,6 +132,13 @@ module _ (w t : ℕ) (values turned : List ℕ) {n : ℕ} (i : n ≡ op_field w)
       → common_ticks op (shown w t turned) (get_or values (c_field w) 0) ≡ ticks_at w t values turned
   unfolding ticks_at
   ticks_by op e d = rw (← i, e, d)
+
+  -- Ops 9 and 10.
+  pub memory_by : 8 < n → n < 11 → 3 ≡ ticks_at w t values turned
+  unfolding decode
+  memory_by l u =
+      ⊎_elim (λ (e : ltb n 10 ≡ true). let q = ltb-true n 10 e in ticks_by {k = 9} load (omega arith) refl)
+      (λ (e : ltb n 10 ≡ false). let q = ltb-false n 10 e in ticks_by {k = 10} store (omega arith) refl) (either (ltb n 10))
 
   -- Op 8, by the numbers of its registers as the code has them.
   pub multiply_by : n ≡ 8 → {x y : ℕ} → x ≡ b_field w → y ≡ c_field w → {lacked : ℕ} → lacked ≡ lacking t → {v : Bool}

@@ -1,38 +1,30 @@
 -- What the ops on registers do in the hot loop, as their functions promise it: by equation, in the words of the model.
 -- Assumes nothing.
-use Rattle.std.specs.Prelude.{ℕ, ◌+◌, ◌%◌, ◌^◌, Bool, true, false, cond, not, ◌&&◌, List, bit_or, nat_lt, slice_index, slice_set}
+use Rattle.std.specs.Prelude.{ℕ, ◌+◌, ◌%◌, ◌^◌, Bool, cond, not, ◌&&◌, List, bit_or, nat_lt, slice_index, slice_set}
 use Rattle.principals.specs.Principals.{may_go}
 use Rattle.labels.specs.Label.{restrictions, lacking}
 use Rattle.model.specs.declared.Pair.{Pair}
 use Rattle.model.specs.Numbers.{register_count}
 use Rattle.model.specs.Word.{Arithmetic, a_field, b_field, c_field, n_field, compute}
 use Rattle.model.specs.Ops.{writable, arithmetic_ticks}
-use Rattle.parts.specs.declared.stages.Reason.{Reason}
-use Rattle.parts.specs.declared.stages.Reason.TheVariants.{Out, Late, Failed}
+use Rattle.parts.specs.declared.stages.Reason.TheVariants.{Late, Failed}
 use Rattle.turns.specs.declared.Spot.{Spot}
 use Rattle.turns.specs.declared.Turn.{Turn}
+use Rattle.turns.specs.declared.Turn.TheVariants.{Going, Stopping}
 
 -- The pc behind a fetched word, in 32 bits.
 unfoldable pub next : Spot → ℕ
 next spot = (spot.pc + 1) % 2 ^ 32
 
--- The turn did a step.
-abbrev pub going : ℕ → ℕ → Turn
-going pc ticks = record { done = true; pc = pc; ticks = ticks; reason = Out }
-
--- The turn did none.
-abbrev pub stopping : Reason → Turn
-stopping reason = record { done = false; pc = 0; ticks = 0; reason = reason }
-
 -- An op of so many ticks that goes on at pc, if it finishes by the deadline.
 abbrev pub timed : ℕ → ℕ → ℕ → Turn
-timed ticks pc left = cond (nat_lt ticks left) (going pc ticks) (stopping Late)
+timed ticks pc left = cond (nat_lt ticks left) (Going pc ticks) (Stopping Late)
 
 -- A branch or jump.
 unfoldable pub gone : Spot → Bool → Bool → Bool → ℕ → Turn
 gone spot up ok taken target =
     cond (ok && taken) (timed 1 target spot.left)
-    (cond (not ok && up) (stopping Failed) (timed 1 (next spot) spot.left))
+    (cond (not ok && up) (Stopping Failed) (timed 1 (next spot) spot.left))
 
 -- A turn and the values of the registers behind it.
 pub record Taken : Type 0 where

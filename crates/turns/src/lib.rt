@@ -5,7 +5,7 @@
 ghost use Rattle.std.specs.Prelude.{◌≡◌, true};
 ghost use Rattle.model.specs.Word.{compute};
 ghost use Rattle.arithmetic.specs.Arithmetic.{arithmetic_of};
-ghost use Rattle.turns.specs.Turns.{next, going, stopping, gone, taken, assigned, immediate_taken, combined_taken};
+ghost use Rattle.turns.specs.Turns.{next, timed, gone, taken, assigned, immediate_taken, combined_taken};
 ghost use Rattle.turns.specs.Ticks.{ticks_at};
 
 use arithmetic::{Arithmetic, compute, ticks_of};
@@ -14,10 +14,12 @@ use model::Pair;
 use model::numbers::{REGISTER_COUNT, ZERO_REGISTER};
 use parts::stages::Reason;
 use parts::word::{a_of, b_of, c_of, n_of, op_of};
-use std::num::wrapping_add_u32;
 
 // For each register the restrictions of its label, and behind them for each those that its label lacks.
 pub const TURNED_COUNT: usize = 32;
+
+// The ticks of a load or a store.
+pub const MEMORY_TICKS: u32 = 3;
 
 // What stays the same while the hot loop runs: the size, the pair, whether an upcall is open, and the tick by which an op
 // has to finish.
@@ -37,48 +39,35 @@ pub struct Spot {
     pub left: u32,
 }
 
-// One turn of the loop: whether it did a step, the pc that it left and the ticks that it took, and else why it stopped.
+// One turn of the loop: it did a step, with the pc that this left and the ticks that it took, or it stopped for a reason.
+// As a Result, whose Ok would hold pc and ticks in a struct, it costs three to nine in a hundred more instructions a step.
 #[derive(Clone, Copy)]
-pub struct Turn {
-    pub done: bool,
-    pub pc: u32,
-    pub ticks: u32,
-    pub reason: Reason,
+pub enum Turn {
+    Going { pc: u32, ticks: u32 },
+    Stopping(Reason),
 }
 
 // The pc behind a fetched word, in 32 bits: behind a word of memory it is always the next number.
+#[tactic(auto, unfolding(crate::specs::Turns::next))]
 pub fn next(spot: Spot) -> u32
     ensures { result ≡ next spot }
 {
-    wrapping_add_u32(spot.pc, 1)
+    spot.pc.wrapping_add(1)
 }
 
-// A turn that did a step.
-pub fn going(pc: u32, ticks: u32) -> Turn
-    ensures { result ≡ going pc ticks }
+// An op of so many ticks that goes on at pc, if it finishes by the deadline.
+pub fn timed(ticks: u32, pc: u32, left: u32) -> Turn
+    ensures { result ≡ timed ticks pc left }
 {
-    Turn {
-        done: true,
-        pc,
-        ticks,
-        reason: Reason::Out,
+    if ticks < left {
+        return Turn::Going { pc, ticks };
     }
-}
-
-// A turn that did no step.
-pub fn stopping(reason: Reason) -> Turn
-    ensures { result ≡ stopping reason }
-{
-    Turn {
-        done: false,
-        pc: 0,
-        ticks: 0,
-        reason,
-    }
+    Turn::Stopping(Reason::Late)
 }
 
 // Register a gets v if the check passed, it isn't register 0 and there is one, in so many ticks. That there is one is no
 // test in the machine code where a is a field of a word, which the compiler knows to be below 16.
+#[tactic(auto, unfolding(crate::specs::Turns::assigned, model::specs::Ops::writable))]
 pub fn assign(
     values: &mut [u32; REGISTER_COUNT],
     spot: Spot,
@@ -95,9 +84,8 @@ pub fn assign(
                 values[a] = v;
             }
         }
-        return going(next(spot), ticks);
     }
-    stopping(Reason::Late)
+    timed(ticks, next(spot), spot.left)
 }
 
 // Op 1: register a gets n.
@@ -150,22 +138,17 @@ pub fn combine(
 
 // A branch that is taken or not, or a jump: on at the target if the check passes. In an upcall a failed check stops the
 // loop. Taken and not taken are two returns, which the compiler makes less of than of a chosen pc.
+#[tactic(auto, unfolding(crate::specs::Turns::gone))]
 pub fn go(spot: Spot, up: bool, ok: bool, taken: bool, target: u32) -> Turn
     ensures { result ≡ gone spot up ok taken target }
 {
     if ok & taken {
-        if 1 < spot.left {
-            return going(target, 1);
-        }
-        return stopping(Reason::Late);
+        return timed(1, target, spot.left);
     }
     if (!ok) & up {
-        return stopping(Reason::Failed);
+        return Turn::Stopping(Reason::Failed);
     }
-    if 1 < spot.left {
-        return going(next(spot), 1);
-    }
-    stopping(Reason::Late)
+    timed(1, next(spot), spot.left)
 }
 
 // The ticks of the common op of the word w, under the timing label t. For any other word it says 1.
@@ -184,8 +167,7 @@ pub fn ticks_at(
             let visible = may_go(turned[b] | turned[c], Label(t).lacking());
             ticks_of(Arithmetic::Multiply, visible, values[c])
         }
-        9 => 3,
-        10 => 3,
+        9 | 10 => MEMORY_TICKS,
         23 => ticks_of(Arithmetic::Divide, true, values[c]),
         24 => ticks_of(Arithmetic::Remainder, true, values[c]),
         _ => 1,

@@ -1,6 +1,6 @@
 -- One turn of the hot loop, as its functions promise it: by equation with what a step of the model does.
 -- Assumes nothing.
-use Rattle.std.specs.Prelude.{◌≡◌, ℕ, ◌+◌, ◌%◌, ◌^◌, ◌<◌, ◌≤◌, true, false, cond, ◌&&◌, List, bit_or, nat_lt, slice_index, slice_index_or, slice_set}
+use Rattle.std.specs.Prelude.{◌≡◌, ℕ, ◌+◌, ◌%◌, ◌^◌, ◌<◌, ◌≤◌, true, cond, ◌&&◌, List, bit_or, nat_lt, slice_index, slice_index_or, slice_set, ⊤}
 use Rattle.principals.specs.Principals.{may_go}
 use Rattle.labels.specs.Label.{restrictions, lacking}
 use Rattle.model.specs.Numbers.{register_count}
@@ -8,9 +8,11 @@ use Rattle.model.specs.Record.{State, state_from}
 use Rattle.model.specs.Word.{op_field, a_field, b_field, decode}
 use Rattle.model.specs.Ops.{writable}
 use Rattle.model.specs.Step.{known, fetch, step, moved}
+use Rattle.parts.specs.declared.stages.Reason.{Reason}
 use Rattle.turns.specs.declared.Context.{Context}
 use Rattle.turns.specs.declared.Spot.{Spot}
 use Rattle.turns.specs.declared.Turn.{Turn}
+use Rattle.turns.specs.declared.Turn.TheVariants.{Going, Stopping}
 use Rattle.turns.specs.Turned.{Mirrors}
 use Rattle.turns.specs.Turns.{next, timed, taken, assigned}
 use Rattle.sprint.specs.Skim.{is_common}
@@ -60,22 +62,22 @@ moving s pc ticks values words =
     state_from s.fixed (moved s.control (s.control.clock + ticks) pc) values s.registers.labels words s.memory.labels
 
 -- A turn that did a step: it is one of the model, of a common op.
-pub record Goes (s : State) (left : ℕ) (r : Turn) (values words : List ℕ) : Type 0 where
+pub record Goes (s : State) (left pc ticks : ℕ) (values words : List ℕ) : Type 0 where
   pub common : is_common s ≡ true
-  pub steps : step s ≡ moving s r.pc r.ticks values words
-  pub some : 0 < r.ticks
-  pub less : r.ticks < left
+  pub steps : step s ≡ moving s pc ticks values words
+  pub some : 0 < ticks
+  pub less : ticks < left
 
 -- A turn that stopped: for a reason, with registers and memory left.
-pub record Stops (s : State) (deadline : ℕ) (r : Turn) (values words : List ℕ) : Type 0 where
-  pub reason : Stopped r.reason deadline s
+pub record Stops (s : State) (deadline : ℕ) (why : Reason) (values words : List ℕ) : Type 0 where
+  pub reason : Stopped why deadline s
   pub registers : values ≡ s.registers.values
   pub memory : words ≡ s.memory.values
 
 -- A turn in the state s.
-pub record Did (s : State) (deadline left : ℕ) (r : Turn) (values words : List ℕ) : Type 0 where
-  pub goes : r.done ≡ true → Goes s left r values words
-  pub stops : r.done ≡ false → Stops s deadline r values words
+abbrev pub Did : State → ℕ → ℕ → Turn → List ℕ → List ℕ → Type 0
+Did s deadline left (Going pc ticks) values words = Goes s left pc ticks values words
+Did s deadline left (Stopping why) values words = Stops s deadline why values words
 
 -- What a turn at a fetched word promises, for every state that the loop's view fits.
 abbrev pub Common : Context → Spot → List ℕ → List ℕ → List ℕ → List ℕ → Turn → List ℕ → List ℕ → Type 0
@@ -86,4 +88,5 @@ Common context spot values turned words marks r values' words' =
 
 -- A turn that did a step took a tick or more, and fewer than were left, whatever the state.
 abbrev pub Forward : Spot → Turn → Type 0
-Forward spot r = r.done ≡ true → (0 < r.ticks) × (r.ticks < spot.left)
+Forward spot (Going pc ticks) = (0 < ticks) × (ticks < spot.left)
+Forward spot (Stopping why) = ⊤

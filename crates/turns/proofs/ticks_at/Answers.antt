@@ -1,8 +1,8 @@
 -- `turns::ticks_at` meets its contract.
 -- Assumes nothing.
 use Rattle.std.proofs.Common.{refl, ◌∙◌, arith}
-use Rattle.model.specs.Word.{divide, remainder, arithmetic, load, store, decode}
-use Rattle.turns.proofs.Ticks.{brief, ticks_by, multiply_by}
+use Rattle.model.specs.Word.{divide, remainder, arithmetic, decode}
+use Rattle.turns.proofs.Ticks.{brief, ticks_by, memory_by, multiply_by}
 use Rattle.turns.proofs.ticks_at.Goals as goal
 
 pub returns-in-8 : goal.returns-in-8
@@ -11,12 +11,7 @@ returns-in-8 c =
     c.c_of-c.ensures.0 c.lacking.ensures c.may_go-visible.ensures c.ticks_of.ensures.0
 
 pub returns-in-9 : goal.returns-in-9
-unfolding decode
-returns-in-9 c = ticks_by _ _ _ _ c.op_of.ensures load c.in-9.is refl
-
-pub returns-in-10 : goal.returns-in-10
-unfolding decode
-returns-in-10 c = ticks_by _ _ _ _ c.op_of.ensures store c.in-10.is refl
+returns-in-9 c = memory_by _ _ _ _ c.op_of.ensures (omega arith) (omega arith)
 
 pub returns-in-23 : goal.returns-in-23
 unfolding decode
@@ -30,3 +25,6 @@ returns-in-24 c =
 
 pub returns-in_default : goal.returns-in_default
 returns-in_default c = brief _ _ _ _ c.op_of.ensures (((((tt, λ e. omega arith), λ e. omega arith), λ e. omega arith), λ e. omega arith), λ e. omega arith)
+
+pub returns-in_default-2 : goal.returns-in_default-2
+returns-in_default-2 c = brief _ _ _ _ c.op_of.ensures (((((tt, λ e. omega arith), λ e. omega arith), λ e. omega arith), λ e. omega arith), λ e. omega arith)

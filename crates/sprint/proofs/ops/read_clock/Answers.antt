@@ -1,15 +1,15 @@
 -- `sprint::ops::read_clock` meets its contract.
 -- Assumes nothing.
-use Rattle.std.proofs.Common.{◌∙◌, arith}
+use Rattle.std.proofs.Common.{◌+◌, ◌-◌, ◌%◌, ◌^◌, arith}
 use Rattle.sprint.proofs.ops.read_clock.Goals as goal
 
 pub returns : goal.returns
 returns c =
     let check = c in
     record {
-      clock = c.wrapping_sub_u32-clock.result;
+      clock = ((c.args.context.deadline + 1) % 2 ^ 32 + (2 ^ 32 - c.args.spot.left)) % 2 ^ 32;
       short = omega arith;
-      counted = c.wrapping_sub_u32-clock.ensures.value ∙ c.wrapping_add_u32.ensures.value;
+      counted = omega arith;
       assigned =
           rw (
             ← check.a_of-a.ensures.0,
