@@ -1,15 +1,16 @@
 -- Numbers in base ten: their digits one by one, how many there are, and what is read back from them.
 -- Assumes nothing.
-use Prim.Native.Nat.{ℕ, zero, suc, ◌+◌, ◌-◌, ◌*◌, ◌/◌, ◌%◌, ◌^◌, ◌<◌, ◌≤◌}
-use mathlib.Core.Path.{◌≡◌, refl, sym, ap}
+use Prim.Native.Nat.{ℕ, zero, suc, ◌+◌, ◌*◌, ◌/◌, ◌%◌, ◌^◌, ◌<◌, ◌≤◌}
+use mathlib.Core.Path.{◌≡◌, refl, sym, ap, ◌∙◌}
 use mathlib.Core.Bool.{cond}
 use mathlib.Core.List.{List, [], ◌∷◌, ◌++◌}
-use native.Mathlib.Nat.{pow-suc, pow-le-pow_right, one-le-pow, div-lt_iff_lt-mul, le-div_iff_mul-le}
-use native.Mathlib.Numerals.{add-one}
+use native.Mathlib.Nat.{pow-suc, one-le-pow, div-lt_iff_lt-mul, le-div_iff_mul-le}
 use native.Mathlib.Omega.{arith}
 use lib.Dec.{ltb, lit<}
 use lib.ListN.{length, length-append}
 use borrow.Author.Tests.{lt-ltb, le-ltb}
+use Rattle.std.specs.Prelude.{Option, Some, None}
+use Rattle.std.specs.Option.{IfSome, IfNone, unwrap_or}
 use Rattle.model.specs.Listing.{decimal_in, decimal}
 use Rattle.model.proofs.Truth.{choice}
 
@@ -99,50 +100,10 @@ pub digits_above : (k n : ℕ) → k < 20 → 10 ^ k ≤ n → suc k ≤ length 
 unfolding decimal
 digits_above k n h g = above_power 20 k n h g
 
--- ---- the digits counted, by powers of ten
-
--- So many digits are counted of a number, and the bound is the power of ten with one digit more.
-pub record Counted (n count bound : ℕ) : Type 0 where
-  pub least : 1 ≤ count
-  pub most : count ≤ 19
-  pub power : bound ≡ 10 ^ count
-  pub digits : count ≤ length (decimal n)
-
--- The first one.
-pub count_first : (n : ℕ) → Counted n 1 10
-count_first n = record { least = omega arith; most = omega arith; power = refl; digits = least_digits n }
-
-module _ (n count bound : ℕ) (s : Counted n count bound) where
-  -- A number below the bound has no more.
-  pub count_end : n < bound → count ≡ length (decimal n)
-  count_end h =
-      let e : suc (count - 1) ≡ count = omega (arith, s.least) in
-      let l : n < 10 ^ suc (count - 1) = rw (e, ← s.power) h in
-      omega (arith, s.digits, digits_below (count - 1) n l)
-
-  module _ (h : bound ≤ n) where
-    -- Any other has one more.
-    another : suc count ≤ length (decimal n)
-    another = digits_above count n (omega (arith, s.most)) (rw s.power at h)
-
-    -- There are no more than twenty.
-    pub count_last : count + 1 ≡ 20 → 20 ≡ length (decimal n)
-    count_last e = omega (arith, another, most_digits_lem n)
-
-    module _ (f : count + 1 ≡ 20 → ⊥) where
-      -- The next power of ten is below 2^64.
-      pub count_room : bound * 10 ≤ 10 ^ 19
-      count_room =
-          let few : count ≤ 18 = omega (arith, s.most) in
-          let g : 10 ^ count ≤ 10 ^ 18 = pow-le-pow_right {n = 10} (lit< tt) few in
-          omega (arith, s.power)
-
-      -- One more is counted.
-      pub count_more : Counted n (count + 1) (bound * 10)
-      count_more =
-          record {
-            least = omega arith;
-            most = omega (arith, s.most);
-            power = rw (add-one, pow-suc, s.power);
-            digits = omega (arith, another);
-          }
+-- One more than the power of ten that a number reaches, as its logarithm gives it; a zero has one digit and none.
+pub by_logarithm : (n : ℕ) (power : Option ℕ) → IfNone power (n ≡ 0) → IfSome power (λ k. 10 ^ k ≤ n)
+    → IfSome power (λ k. n < 10 * 10 ^ k) → IfSome power (λ k. k < 20) → 1 + unwrap_or power 0 ≡ length (decimal n)
+by_logarithm n None z l h b = ap length (sym (decimal_digit n (omega arith))) ∙ refl
+by_logarithm n (Some k) z l h b =
+    let p : 10 ^ suc k ≡ 10 ^ k * 10 = pow-suc 10 k in
+    omega (arith, digits_above k n b l, digits_below k n (omega arith))

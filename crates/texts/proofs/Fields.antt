@@ -7,6 +7,8 @@ use native.Mathlib.Numerals.{add-one}
 use native.Mathlib.Omega.{arith}
 use lib.ListN.{length, take, drop, get_or, length-append, take-append-drop}
 use lib.Seq.{take-suc}
+use Rattle.std.specs.List.{sum_by}
+use Rattle.std.proofs.lemmas.List.Recursion.{is_sum_by}
 use Rattle.model.specs.Listing.{decimal, fields, line}
 use Rattle.texts.proofs.Decimal.{most_digits_lem}
 
@@ -34,6 +36,12 @@ pub fields_most : (ns : List ℕ) → length (fields ns) ≤ 21 * length ns
 unfolding fields
 fields_most [] = omega arith
 fields_most (n ∷ ns) = simp length-append (omega (arith, fields_most ns, most_digits_lem n))
+
+-- Together they take a comma and the digits of each.
+pub fields_sum : (ns : List ℕ) → length (fields ns) ≡ sum_by (λ n. 1 + length (decimal n)) ns
+unfolding fields
+fields_sum =
+    is_sum_by (λ ns. length (fields ns)) (λ n. 1 + length (decimal n)) refl (λ n ns. simp length-append (omega arith))
 
 -- A line is its letter, its fields and an LF.
 pub line_length : (letter : ℕ) (ns : List ℕ) → length (line letter ns) ≡ 2 + length (fields ns)

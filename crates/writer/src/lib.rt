@@ -10,9 +10,6 @@ ghost use Rattle.writer.specs.Inner.Wrote.{Wrote};
 
 use model::format::{COMMA, LF, MOST_FIELDS};
 
-// The most digits of a number of 64 bits.
-const LONGEST: usize = 20;
-
 // Writes a line and gives how many bytes it takes. Where the rest is too short for it nothing is written, and the answer
 // is the same: so a line is measured by lending an empty rest. More numbers than a line has are no line, of 0 bytes.
 pub fn write_line(out: &mut [u8], letter: u8, numbers: &[u64]) -> usize
@@ -32,33 +29,19 @@ pub fn write_line(out: &mut [u8], letter: u8, numbers: &[u64]) -> usize
 }
 
 // How many bytes the fields take.
+#[tactic(auto, using(texts::proofs::Decimal::most_digits_lem))]
 fn fields_length(numbers: &[u64]) -> usize
     requires { length numbers.now ≤ most_fields }
     ensures { result ≡ length (fields numbers.now) }
 {
-    let mut sum: usize = 0;
-    let mut i = 0;
-    while i < numbers.len() {
-        sum += 1 + digit_count(numbers[i]);
-        i += 1;
-    }
-    sum
+    numbers.iter().map(|n| 1 + digit_count(*n)).sum()
 }
 
-// How many digits a number has: the powers of ten are multiplied up to it, which takes less time than dividing it down.
+// How many digits a number has.
 fn digit_count(n: u64) -> usize
     ensures { result ≡ length (decimal n) }
 {
-    let mut count: usize = 1;
-    let mut bound: u64 = 10;
-    while bound <= n {
-        if count + 1 == LONGEST {
-            return LONGEST;
-        }
-        bound *= 10;
-        count += 1;
-    }
-    count
+    1 + n.checked_ilog10().unwrap_or(0) as usize
 }
 
 // Writes the fields, each behind the one before it.
@@ -66,12 +49,9 @@ fn put_fields(out: &mut [u8], numbers: &[u64]) -> usize
     requires { length (fields numbers.now) ≤ length out.old }
     ensures { Wrote (fields numbers.now) out.old result out.new }
 {
-    let mut at: usize = 0;
-    let mut i = 0;
-    while i < numbers.len() {
-        let n = numbers[i];
-        at += put_field(&mut out[at..], n);
-        i += 1;
+    let mut at = 0;
+    for n in numbers {
+        at += put_field(&mut out[at..], *n);
     }
     at
 }
@@ -91,13 +71,10 @@ fn put_number(out: &mut [u8], n: u64) -> usize
     ensures { Wrote (decimal n) out.old result out.new }
 {
     let count = digit_count(n);
-    let mut at = count;
     let mut rest = n;
-    while 10 <= rest {
-        at -= 1;
+    for at in (0..count).rev() {
         out[at] = b'0' + (rest % 10) as u8;
         rest /= 10;
     }
-    out[0] = b'0' + rest as u8;
     count
 }

@@ -3,8 +3,5 @@
 use Rattle.writer.proofs.Spelled.{Spelled}
 use Rattle.writer.proofs.put_number.Given as goal
 
-abbrev pub invariant-loop-rest : goal.invariant-loop-rest
-invariant-loop-rest l = Spelled l.n l.initial.out l.out l.at l.rest
-
-abbrev pub decreases-loop-rest : goal.decreases-loop-rest
-decreases-loop-rest l = l.rest
+abbrev pub invariant-loop-at : goal.invariant-loop-at
+invariant-loop-at l = Spelled l.n l.initial.out l.out l.at l.rest
