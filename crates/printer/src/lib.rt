@@ -16,7 +16,6 @@ ghost use Rattle.printer.specs.Inner.Placing.{state_with, Entries, longest, long
 use causes::{Cause, Outcome};
 use labels::{Bits, Label};
 use machine_record::{Machine, is_blank, is_lent_whole};
-use model::numbers::REGISTER_COUNT;
 use model::{Call, Control, Pair};
 use writer::write_line;
 
@@ -42,13 +41,6 @@ pub struct Printed {
     pub outcome: Outcome,
     pub bytes: usize,
     pub machine: Machine,
-}
-
-// A part of the listing: the letter of its lines, and of how many entries it tells.
-#[derive(Clone, Copy)]
-struct Section {
-    letter: u8,
-    count: usize,
 }
 
 // A register or a word: its number, its label and its value.
@@ -150,17 +142,9 @@ fn write_listing(
     let values = machine.values;
     let labels = machine.labels;
     let size = machine.fixed.size as usize;
-    let registers = Section {
-        letter: R,
-        count: REGISTER_COUNT,
-    };
-    let memory = Section {
-        letter: W,
-        count: size,
-    };
     let mut at = write_head(out, viewer, control);
-    at = write_entries(out, at, viewer, registers, &values, &labels);
-    write_entries(out, at, viewer, memory, words, marks)
+    at = write_entries(out, at, viewer, R, &values, &labels);
+    write_entries(out, at, viewer, W, &words[..size], &marks[..size])
 }
 
 // Writes a line.
@@ -174,15 +158,6 @@ fn write_line_at(out: &mut [u8], at: usize, letter: u8, numbers: &[u64]) -> usiz
     at + write_line(&mut out[at..], letter, numbers)
 }
 
-// ---- what the viewer sees
-
-// Whether what bears this label is seen: it flows to the viewer's.
-fn is_seen(viewer: Bits, label: Bits) -> bool
-    ensures { result ≡ within viewer label }
-{
-    Label(label).flows_to(Label(viewer))
-}
-
 // ---- the E line and the F lines
 
 // Writes them, or a line `H` in their place where the pc label is not seen.
@@ -190,7 +165,7 @@ fn write_head(out: &mut [u8], viewer: Bits, control: Control) -> usize
     ensures { Placed (head_for (control_seen viewer control)) out.old 0 result out.new }
 {
     let pair = control.pair;
-    if is_seen(viewer, pair.pc) {
+    if Label(pair.pc).flows_to(Label(viewer)) {
         return write_head_lines(out, control);
     }
     let none = [0u64; 0];
@@ -250,30 +225,27 @@ fn call_fields(kind: u64, back: u32, pair: Pair, tick: u64) -> [u64; 5]
 
 // ---- R and W lines
 
-// Writes the lines of a section.
+// Writes the lines of some entries.
 fn write_entries(
     out: &mut [u8],
     start: usize,
     viewer: Bits,
-    section: Section,
+    letter: u8,
     values: &[u32],
     labels: &[Bits],
 ) -> usize
-    requires { Entries values.now labels.now section.count × (start + longest_entry * section.count ≤ longest) }
-    ensures { Placed (entry_lines section.letter (bank_seen viewer (lent values.now labels.now)) 0 section.count) out.old start result out.new }
+    requires labelled { length labels.now ≡ length values.now }
+    requires short { start + longest_entry * length values.now ≤ longest }
+    ensures { Placed (entry_lines letter (bank_seen viewer (lent values.now labels.now)) 0 (length values.now)) out.old start result out.new }
 {
     let mut at = start;
-    let mut k = 0;
-    while k < section.count {
-        let label = labels[k];
-        let value = values[k];
+    for (number, (value, label)) in values.iter().zip(labels).enumerate() {
         let entry = Entry {
-            number: k,
-            label,
-            value,
+            number,
+            label: *label,
+            value: *value,
         };
-        at = write_entry(out, at, viewer, section.letter, entry);
-        k += 1;
+        at = write_entry(out, at, viewer, letter, entry);
     }
     at
 }
@@ -301,5 +273,5 @@ fn entry_fields(entry: Entry) -> [u64; 3]
 fn is_listed(viewer: Bits, label: Bits, value: u32) -> bool
     ensures { result ≡ (within viewer label && is_listed label value) }
 {
-    is_seen(viewer, label) & !is_blank(label, value)
+    Label(label).flows_to(Label(viewer)) & !is_blank(label, value)
 }

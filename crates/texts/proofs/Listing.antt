@@ -7,14 +7,15 @@ use mathlib.Core.Bool.{Bool, true, false, ◌&&◌, cond}
 use mathlib.Core.List.{List, [], ◌∷◌, ◌++◌, append_assoc, append-nil}
 use native.Mathlib.Nat.{zero-add, suc-add}
 use native.Mathlib.Omega.{arith}
-use lib.ListN.{length, get_or, length-append}
+use lib.ListN.{length, take, get_or, length-append}
+use lib.Seq.{get_or-take}
 use borrow.Author.Tests.{lt-ltb, le-ltb}
 use Rattle.labels.specs.Label.{principals, highest}
 use Rattle.principals.proofs.Laws.{flows_highest}
 use Rattle.model.specs.declared.Control.{Control}
 use Rattle.model.specs.declared.Call.{Call}
 use Rattle.model.specs.declared.Call.TheVariants.{Empty, Gate, Upcall}
-use Rattle.model.specs.Record.{Bank, State, register, word, value_at, label_at}
+use Rattle.model.specs.Record.{Bank, State, lent, register, word, value_at, label_at}
 use Rattle.model.specs.Numbers.{letter_h, letter_r, letter_w, register_count, most_words}
 use Rattle.model.specs.Seen.{within, exists, Seen, hidden, shown, seen_by, seen_at, SeenControl, unseen, seen, seen_control}
 use Rattle.model.specs.Listing.{line, end_fields, call_line, head_lines, head_for, is_listed, entry_line, entry_for, entry_lines, listing_for, listing}
@@ -122,6 +123,12 @@ unfolding entry_lines
 entries_same letter size f g e j zero h = refl
 entries_same letter size f g e j (suc n) h =
     rw (e j (omega arith), entries_same letter size f g e (j + 1) n (omega arith))
+
+-- So have the first n entries of a bank that are lent alone.
+pub entries_taken : (ℓ letter n : ℕ) (vs ls : List ℕ)
+    → entry_lines letter (bank_seen ℓ (lent (take n vs) (take n ls))) 0 n ≡ entry_lines letter (bank_seen ℓ (lent vs ls)) 0 n
+entries_taken ℓ letter n vs ls =
+    entries_same letter n _ _ (λ k h. rw (get_or-take n vs k 0 h, get_or-take n ls k 0 h) refl) 0 n (omega arith)
 
 -- Hidden entries have none.
 entries_hidden : (letter size : ℕ) (f : ℕ → Seen) → ((k : ℕ) → size ≤ k → f k ≡ hidden) → (j n : ℕ) → size ≤ j

@@ -1,64 +1,58 @@
 -- `printer::write_entries` meets its contract. The lines of the entries passed are written.
 -- Assumes nothing.
-use Prim.Native.Nat.{ℕ}
-use mathlib.Core.Path.{◌≡◌, refl, ◌∙◌}
-use native.Mathlib.Omega.{arith}
+use Rattle.std.proofs.Common.{ℕ, ◌<◌, ◌≡◌, length, get_or, arith}
+use Rattle.std.proofs.lemmas.List.{length_push}
+use Rattle.std.proofs.lemmas.Iterator.{YieldsList-from_slice, YieldsList-from_zip}
+use Rattle.std.proofs.lemmas.Iterator.Consumers.{YieldsList-at, YieldsList-from_enumerate, YieldsList-turn}
 use Rattle.model.specs.Seen.{Seen}
 use Rattle.model.specs.Listing.{entry_for, entry_lines}
 use Rattle.model.specs.Record.{lent}
 use Rattle.texts.specs.Inner.Sight.{bank_seen}
 use Rattle.texts.proofs.Listing.{entries_more, entries_most}
 use Rattle.printer.proofs.Places.{placed_none, placed_then}
+use Rattle.printer.proofs.Entries.{turned}
 use Rattle.printer.proofs.write_entries.Goals as goal
-use Rattle.printer.proofs.write_entries.Goals.{Start}
+use Rattle.printer.proofs.write_entries.Goals.{Start, In-Some}
 
 -- What the viewer sees of the entries.
-abbrev bank_seen_lem : Start → ℕ → Seen
-bank_seen_lem start = bank_seen start.args.viewer (lent start.args.values.now start.args.labels.now)
+abbrev sight : Start → ℕ → Seen
+sight start = bank_seen start.args.viewer (lent start.args.values.now start.args.labels.now)
 
-pub loop-k-init : goal.loop-k-init
+pub loop-number-init : goal.loop-number-init
 unfolding entry_lines
-loop-k-init c = ((omega arith, refl), placed_none _ _)
+loop-number-init c = placed_none _ _
 
-pub bounds-labels-k : goal.bounds-labels-k
-bounds-labels-k c = omega arith
-
-pub offset_bounds-values-k : goal.offset_bounds-values-k
-offset_bounds-values-k c = omega arith
-
-pub bounds-values-k : goal.bounds-values-k
-bounds-values-k c = omega arith
+-- The entry that the loop has come to is the next of the bank.
+turn : (c : In-Some)
+    → let k = length c.loop-number.yielded in
+    (k < length c.args.values.now) × (c.in-Some.number ≡ k)
+    × (c.in-Some.value.now ≡ get_or c.args.values.now k 0) × (c.in-Some.label.now ≡ get_or c.args.labels.now k 0)
+turn c =
+    turned c.args.values.now c.args.labels.now _ _ _ _ c.requires.labelled
+    (YieldsList-turn
+    (YieldsList-at c.into_iter-number-iterator.ensures.into_iter_gives
+    (YieldsList-from_enumerate
+    (YieldsList-at c.enumerate-number-items.ensures.source
+    (YieldsList-from_zip (YieldsList-at c.zip.ensures.first (YieldsList-from_slice c.args.values.now cc)) (YieldsList-from_slice c.args.labels.now cc)))
+    c.enumerate-number-items.ensures.count))
+    c.loop-number.yielded c.loop-number.number-iterator c.loop-number.yielded_by c.next.result c.next.new.self (c.in-Some.number, (c.in-Some.value, c.in-Some.label)) c.in-Some.is c.next.ensures.steps)
 
 pub write_entry-at-requires : goal.write_entry-at-requires
 write_entry-at-requires c =
-    let loop = c.loop-k in
+    let t = turn (goal.at.write_entry-at-requires c).In-Some in
     omega (
       arith,
-      loop.invariant.1.place,
-      c.requires.1,
-      entries_most c.args.section.letter (bank_seen_lem (goal.at.write_entry-at-requires c).Start) 0 loop.k,
+      t.0,
+      c.loop-number.invariant.place,
+      c.requires.short,
+      entries_most c.args.letter (sight (goal.at.write_entry-at-requires c).Start) 0 (length c.loop-number.yielded),
     )
 
-pub overflow_add-k : goal.overflow_add-k
-overflow_add-k c = omega arith
-
-pub loop-k-smaller : goal.loop-k-smaller
-loop-k-smaller c = omega arith
-
-pub loop-k-preserved : goal.loop-k-preserved
-loop-k-preserved c =
-    let loop = c.loop-k in (
-      (omega arith, c.write_entry-at.auto.out ∙ loop.invariant.0.1),
-      rw (entries_more c.args.section.letter (bank_seen_lem (goal.at.loop-k-preserved c).Start) loop.k)
-          (placed_then {b = entry_for c.args.section.letter loop.k (bank_seen_lem (goal.at.loop-k-preserved c).Start loop.k)} loop.invariant.1
-          c.write_entry-at.ensures),
-    )
-
-pub shape_of-out : goal.shape_of-out
-shape_of-out c = c.loop-k.invariant.0.1
-
-pub returns : goal.returns
-returns c =
-    let loop = c.loop-k in
-    let e : loop.k ≡ c.args.section.count = omega arith in
-    rw e at loop.invariant.1
+pub loop-number-preserved : goal.loop-number-preserved
+loop-number-preserved c =
+    let t = turn (goal.at.loop-number-preserved c).In-Some in
+    let f = sight (goal.at.loop-number-preserved c).Start in
+    let k = length c.loop-number.yielded in
+    rw (length_push c.loop-number.yielded _, entries_more c.args.letter f k)
+    (placed_then {b = entry_for c.args.letter k (f k)} c.loop-number.invariant
+    (rw (t.1, t.2, t.3) at c.write_entry-at.ensures))
