@@ -16,7 +16,7 @@ use engine::{Task, advance};
 use labels::Bits;
 use loader::load;
 use machine_record::Machine;
-use model::{Control, numbers};
+use model::{Control, Registers, numbers};
 use pacing::Pace;
 use release::{has_time, relabelling, releases};
 use writer::write_line;
@@ -101,8 +101,9 @@ fn watch(label: Bits, machine: Machine, words: &mut [u32], marks: &[Bits]) -> Ce
 {
     let fixed = machine.fixed;
     let mut control = machine.control;
-    let mut values = machine.values;
-    let mut labels = machine.labels;
+    let values = machine.values;
+    let labels = machine.labels;
+    let mut registers = Registers { values, labels };
     let opened = leads_within(label, fixed);
     let mut found = break_of(label, opened, control);
     let mut left = steps_left(fixed.limit, control);
@@ -110,13 +111,12 @@ fn watch(label: Bits, machine: Machine, words: &mut [u32], marks: &[Bits]) -> Ce
         let pair = control.pair;
         let place = control.pc;
         let word = relabelling(fixed.size, place, pair.pc, words, marks);
-        let attempted = has_time(fixed.limit, control)
-            & releases(label, pair.pc, word, &values, &labels);
+        let attempted = has_time(fixed.limit, control) & releases(label, pair.pc, word, &registers);
         let task = Task {
             start: control,
             pace: Pace::Stride,
         };
-        control = advance(fixed, task, &mut values, &mut labels, words, marks);
+        control = advance(fixed, task, &mut registers, words, marks);
         found = first_break(label, opened, attempted, place, control);
         left = steps_left(fixed.limit, control);
     }
@@ -125,7 +125,7 @@ fn watch(label: Bits, machine: Machine, words: &mut [u32], marks: &[Bits]) -> Ce
         start: control,
         pace: Pace::Onward(end),
     };
-    advance(fixed, task, &mut values, &mut labels, words, marks);
+    advance(fixed, task, &mut registers, words, marks);
     found
 }
 

@@ -5,8 +5,7 @@ ghost use Rattle.certify.specs.Inner.Release.{relabelling_at, tries_with, releas
 
 use crate::breaks::is_within;
 use labels::{Bits, LABEL_COUNT, Label};
-use model::Control;
-use model::numbers::REGISTER_COUNT;
+use model::{Control, Registers};
 use parts::calls::{deadline_of, newest};
 use parts::word::{a_of, b_of, index, op_of};
 
@@ -57,21 +56,16 @@ fn tries_release(label: Bits, p: Bits, old: Bits, source: Bits, value: u32) -> b
 }
 
 // Whether what was fetched tries so.
-pub(in crate) fn releases(
-    label: Bits,
-    p: Bits,
-    found: Found,
-    values: &[u32; REGISTER_COUNT],
-    labels: &[Bits; REGISTER_COUNT],
-) -> bool
-    ensures { result ≡ releases_with label p found values.now labels.now }
+pub(in crate) fn releases(label: Bits, p: Bits, found: Found, registers: &Registers) -> bool
+    ensures { result ≡ releases_with label p found registers.now.values registers.now.labels }
 {
     let Found::Word(w) = found else {
         return false;
     };
     let a = a_of(w);
     let b = b_of(w);
-    tries_release(label, p, labels[a], labels[b], values[b])
+    let labels = &registers.labels;
+    tries_release(label, p, labels[a], labels[b], registers.values[b])
 }
 
 // Whether a relabelling is carried out, or passes by: the record runs, and neither end tick nor limit bars the op.

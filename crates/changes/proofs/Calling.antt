@@ -1,20 +1,12 @@
--- Laws about the state at an op: its newest call, values that pass for labels, and numbers of gates.
+-- Laws about the newest call of the state at an op.
 -- Assumes nothing.
-use Prim.Native.Nat.{ℕ, ◌≤◌, ◌<◌}
+use Prim.Native.Nat.{ℕ}
 use mathlib.Core.Path.{◌≡◌, refl, sym, ap, ◌∙◌}
-use mathlib.Core.Bool.{Bool, true, ◌&&◌, false≢true}
+use mathlib.Core.Bool.{true, false≢true}
 use mathlib.Core.List.{List}
-use native.Mathlib.Omega.{arith}
-use lib.ListN.{length, get_or, get_or-eq_default}
-use borrow.Author.Tests.{ltb-true}
-use Rattle.labels.specs.Label.{label_count, flows, valid_pair}
-use Rattle.model.specs.declared.CallGate.{CallGate}
 use Rattle.model.specs.declared.Fixed.{Fixed}
 use Rattle.model.specs.Record.{state_from, is_gate, is_upcall, pair_of, end_tick_of, in_upcall}
-use Rattle.model.specs.WellFormed.{no_gate}
-use Rattle.model.specs.Ops.{is_label}
 use Rattle.model.specs.Step.{end_tick}
-use Rattle.model.proofs.Truth.{and_iff}
 use Rattle.parts.specs.declared.live.Kind.{Kind}
 use Rattle.parts.specs.declared.live.Kind.TheVariants as kinds
 use Rattle.parts.specs.declared.live.Frame.{Frame}
@@ -46,36 +38,3 @@ kept_pair_lem f = go f.kind
     go kinds.Empty e = absurd (false≢true e)
     go kinds.Gate e = refl
     go kinds.Upcall e = absurd (false≢true e)
-
--- ---- labels in registers
-
--- A value that is a label.
-is_below : (x : ℕ) → is_label x ≡ true → x < label_count
-unfolding is_label
-is_below x e = ltb-true x label_count e
-
--- What a passed test of a label says of the value.
-pub label_below : (x : ℕ) (b : Bool) {ok : Bool} → ok ≡ (is_label x && b) → ok ≡ true → x < label_count
-label_below x b e t = is_below x ((and_iff (is_label x) b).0 (sym e ∙ t)).0
-
--- What a passed test of a pair says of the values.
-pub pair_below : (x y lb lc p : ℕ) {ok : Bool} → ok ≡ (is_label x && is_label y && valid_pair x y && flows lb p && flows lc p)
-    → ok ≡ true → (x < label_count) × (y < label_count)
-pair_below x y lb lc p e t = (is_below x both.0, is_below y both.1)
-  where
-    valid : (is_label x && is_label y && valid_pair x y && flows lb p) ≡ true
-    valid = ((and_iff (is_label x && is_label y && valid_pair x y && flows lb p) (flows lc p)).0 (sym e ∙ t)).0
-
-    both : (is_label x ≡ true) × (is_label y ≡ true)
-    both =
-        (and_iff (is_label x) (is_label y)).0
-        ((and_iff (is_label x && is_label y) (valid_pair x y)).0
-        ((and_iff (is_label x && is_label y && valid_pair x y) (flows lb p)).0 valid).0).0
-
--- ---- numbers of gates
-
--- Behind the last gate there is none.
-pub no_gate_lem : (gates : List CallGate) (n k : ℕ) → length gates ≡ n → n ≤ k → no_gate ≡ get_or gates k no_gate
-no_gate_lem gates n k e h =
-    let beyond : length gates ≤ k = omega (arith, e) in
-    sym (get_or-eq_default gates no_gate beyond)

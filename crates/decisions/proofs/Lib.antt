@@ -1,4 +1,3 @@
 -- Laws that the functions' proofs cite.
 pub mod Unknown
 pub mod Deciding
-pub mod Limiting

@@ -1,10 +1,11 @@
 // The first stage of a step where the hot loop stopped: what is to be done. That is for ops 15 to 22, for failed
 // fetches, for upcalls that close, for stalls and for spent time. Nothing here changes the machine.
-#![tactic(auto)]
+#![tactic(auto, using(changes::proofs::Calling::in_upcall_lem, changes::proofs::Calling::end_tick_lem), unfolding(model::specs::Step::fault, model::specs::Step::attempt, model::specs::Step::in_limit, model::specs::Step::beyond_limit, model::specs::Step::finish, model::specs::Ops::table))]
 
 ghost use Rattle.std.specs.Prelude.{ℕ, ◌≡◌, List};
 ghost use Rattle.model.specs.declared.Fixed.{Fixed};
-ghost use Rattle.model.specs.Record.{state_from};
+ghost use Rattle.model.specs.declared.Registers.{Registers};
+ghost use Rattle.model.specs.Registers.{state_over};
 ghost use Rattle.model.specs.Word.{end_upcall, halt};
 ghost use Rattle.model.specs.Step.{fault, fetched, plan};
 ghost use Rattle.parts.specs.declared.stages.Reason.{Reason};
@@ -16,11 +17,10 @@ ghost use Rattle.decisions.specs.Inner.Deciding.{InTime, Decides, Limited};
 
 use changes::calls::{call_gate, return_gate, upcall};
 use changes::rows::{Rule, set_label, set_pair};
-use labels::Bits;
-use model::Fixed;
 use model::numbers::{
-    BY_FAILURE, BY_ITS_END, BY_SPENT_TIME, OUTSIDE_MEMORY, REGISTER_COUNT, UNKNOWN_OP, UNREADABLE,
+    BY_FAILURE, BY_ITS_END, BY_SPENT_TIME, OUTSIDE_MEMORY, UNKNOWN_OP, UNREADABLE,
 };
+use model::{Fixed, Registers};
 use parts::calls::OpenCall;
 use parts::live::Live;
 use parts::stages::{Change, Decision, Reason};
@@ -30,18 +30,16 @@ use parts::word::op_of;
 fn in_time(live: Live, ticks: u32, change: Change) -> Decision
     ensures { InTime live ticks change result }
 {
-    let call = live.newest;
-    if call.is_upcall() {
-        if call.end < live.clock as u64 + ticks as u64 {
-            return Decision::Close(BY_SPENT_TIME);
-        }
+    let finish = u64::from(live.clock) + u64::from(ticks);
+    if live.newest.is_upcall() && live.newest.end < finish {
+        return Decision::Close(BY_SPENT_TIME);
     }
     Decision::Carry(ticks, change)
 }
 
 // A failed fetch.
 fn fault(live: Live, errorpc: u32, why: u8) -> Decision
-    ensures { (reason : Reason) (fixed : Fixed) (values labels : List ℕ) → fixed.errorpc ≡ errorpc → Decides reason (λ s. fault s why) fixed live values labels result }
+    ensures { (reason : Reason) (fixed : Fixed) (registers : Registers) → fixed.errorpc ≡ errorpc → Decides reason (λ s. fault s why) fixed live registers result }
 {
     if live.newest.is_upcall() {
         return Decision::Close(BY_FAILURE);
@@ -54,7 +52,7 @@ fn fault(live: Live, errorpc: u32, why: u8) -> Decision
 
 // An op that would finish past the deadline.
 fn late(live: Live) -> Decision
-    ensures { (reason : Reason) (fixed : Fixed) (values labels : List ℕ) → Decides reason late_of fixed live values labels result }
+    ensures { (reason : Reason) (fixed : Fixed) (registers : Registers) → Decides reason late_of fixed live registers result }
 {
     if live.newest.is_upcall() {
         Decision::Close(BY_SPENT_TIME)
@@ -65,7 +63,7 @@ fn late(live: Live) -> Decision
 
 // Op 19.
 fn end_upcall(live: Live) -> Decision
-    ensures { (w : ℕ) (fixed : Fixed) (values labels : List ℕ) → Decides (Rest w) (λ s. plan s (fetched w end_upcall)) fixed live values labels result }
+    ensures { (w : ℕ) (fixed : Fixed) (registers : Registers) → Decides (Rest w) (λ s. plan s (fetched w end_upcall)) fixed live registers result }
 {
     if live.newest.is_upcall() {
         Decision::Close(BY_ITS_END)
@@ -76,7 +74,7 @@ fn end_upcall(live: Live) -> Decision
 
 // Op 22.
 fn halt(live: Live) -> Decision
-    ensures { (w : ℕ) (fixed : Fixed) (values labels : List ℕ) → Decides (Rest w) (λ s. plan s (fetched w halt)) fixed live values labels result }
+    ensures { (w : ℕ) (fixed : Fixed) (registers : Registers) → Decides (Rest w) (λ s. plan s (fetched w halt)) fixed live registers result }
 {
     if live.newest.is_upcall() {
         Decision::Close(BY_FAILURE)
@@ -86,22 +84,16 @@ fn halt(live: Live) -> Decision
 }
 
 // The ops 15 to 22, and an unknown one. A common op, which the hot loop does, is unknown here.
-fn rest(
-    w: u32,
-    fixed: Fixed,
-    live: Live,
-    values: &[u32; REGISTER_COUNT],
-    labels: &[Bits; REGISTER_COUNT],
-) -> Decision
-    ensures { Decides (Rest w) (plan_at w) fixed live values.now labels.now result }
+fn rest(w: u32, fixed: Fixed, live: Live, registers: &Registers) -> Decision
+    ensures { Decides (Rest w) (plan_at w) fixed live registers.now result }
 {
     match op_of(w) {
-        15 => in_time(live, 2, set_label(Rule::Raise, w, live, values, labels)),
-        16 => in_time(live, 2, set_label(Rule::Relabel, w, live, values, labels)),
-        17 => in_time(live, 2, set_pair(w, live, values, labels)),
-        18 => in_time(live, 2, upcall(w, live, values, labels)),
+        15 => in_time(live, 2, set_label(Rule::Raise, w, live, registers)),
+        16 => in_time(live, 2, set_label(Rule::Relabel, w, live, registers)),
+        17 => in_time(live, 2, set_pair(w, live, registers)),
+        18 => in_time(live, 2, upcall(w, live, registers)),
         19 => end_upcall(live),
-        20 => in_time(live, 4, call_gate(w, fixed, live, values, labels)),
+        20 => in_time(live, 4, call_gate(w, fixed, live, registers)),
         21 => in_time(live, 4, return_gate(live)),
         22 => halt(live),
         _ => fault(live, fixed.errorpc, UNKNOWN_OP),
@@ -109,14 +101,8 @@ fn rest(
 }
 
 // What is to be done for a reason to stop, but for the limit.
-fn plan(
-    reason: Reason,
-    fixed: Fixed,
-    live: Live,
-    values: &[u32; REGISTER_COUNT],
-    labels: &[Bits; REGISTER_COUNT],
-) -> Decision
-    ensures { Decides reason (plan_for reason) fixed live values.now labels.now result }
+fn plan(reason: Reason, fixed: Fixed, live: Live, registers: &Registers) -> Decision
+    ensures { Decides reason (plan_for reason) fixed live registers.now result }
 {
     match reason {
         Reason::Out => Decision::Spend,
@@ -124,7 +110,7 @@ fn plan(
         Reason::Outside => fault(live, fixed.errorpc, OUTSIDE_MEMORY),
         Reason::Unreadable => fault(live, fixed.errorpc, UNREADABLE),
         Reason::Failed => fault(live, fixed.errorpc, UNKNOWN_OP),
-        Reason::Rest(w) => rest(w, fixed, live, values, labels),
+        Reason::Rest(w) => rest(w, fixed, live, registers),
     }
 }
 
@@ -133,37 +119,19 @@ fn in_limit(decision: Decision, live: Live, limit: u32) -> Decision
     ensures { Limited decision live limit result }
 {
     let clock = live.clock;
-    let call = live.newest;
+    let last = u64::from(limit);
     match decision {
-        Decision::Spend => Decision::Spend,
-        Decision::Stall(why) => if clock < limit {
-            Decision::Stall(why)
-        } else {
-            Decision::Spend
-        },
-        Decision::Close(cause) => if (clock != limit) & (call.end < limit as u64) {
-            Decision::Close(cause)
-        } else {
-            Decision::Spend
-        },
-        Decision::Carry(ticks, change) => if clock as u64 + ticks as u64 <= limit as u64 {
-            Decision::Carry(ticks, change)
-        } else {
-            Decision::Spend
-        },
+        Decision::Stall(_) if clock < limit => decision,
+        Decision::Close(_) if clock != limit && live.newest.end < last => decision,
+        Decision::Carry(ticks, _) if u64::from(clock) + u64::from(ticks) <= last => decision,
+        _ => Decision::Spend,
     }
 }
 
 // What is to be done for a reason to stop.
-pub fn decide(
-    reason: Reason,
-    fixed: Fixed,
-    live: Live,
-    values: &[u32; REGISTER_COUNT],
-    labels: &[Bits; REGISTER_COUNT],
-) -> Decision
-    ensures { ((words marks : List ℕ) → decision_of result ≡ decided reason (state_from fixed (control_of live) values.now labels.now words marks)) × (HasNext reason live.pc → Applies result live fixed.limit) }
+pub fn decide(reason: Reason, fixed: Fixed, live: Live, registers: &Registers) -> Decision
+    ensures { ((words marks : List ℕ) → decision_of result ≡ decided reason (state_over fixed (control_of live) registers.now words marks)) × (HasNext reason live.pc → Applies result live fixed.limit) }
 {
-    let decision = plan(reason, fixed, live, values, labels);
+    let decision = plan(reason, fixed, live, registers);
     in_limit(decision, live, fixed.limit)
 }

@@ -1,6 +1,6 @@
 -- Laws about the steps that are asked for: what holds whenever the loop's test is reached, and where it ends.
 -- Assumes nothing.
-use Prim.Native.Nat.{ℕ, zero, suc, ◌+◌, ◌-◌, ◌≤◌, ◌<◌}
+use Prim.Native.Nat.{ℕ, zero, suc, ◌+◌, ◌-◌, ◌≤◌, ◌<◌, min}
 use mathlib.Core.Path.{◌≡◌, refl, sym, ap, ap₂, ◌∙◌, subst}
 use mathlib.Core.Logic.{◌⊎◌, inl, inr, ⊎_elim}
 use mathlib.Core.Bool.{Bool, true, false, ◌&&◌, ◌||◌, cond}
@@ -56,9 +56,14 @@ use Rattle.pacing.proofs.Keeping.{keeps_labels}
 use Rattle.engine.specs.declared.Task.{Task}
 use Rattle.engine.specs.Stride.{ends, run_count, strode}
 use Rattle.engine.specs.Advance.{paced}
-use Rattle.engine.specs.Inner.Drive.{context_of, Alone, finish_of, Driven}
+use Rattle.engine.specs.Inner.Drive.{context_of, Alone, finish_of}
 use Rattle.engine.proofs.Skimming.{skim_first, skim_behind, skim_stays, ended_uncommon, stopped_relabels, stride_ends, stride_goes, ends_first, ends_there}
 use Rattle.engine.proofs.Settling.{Common, common_of, Settles, settles, finish_in_limit, stopped_uncommon}
+
+-- The steps were done.
+abbrev pub Driven : Fixed → Task → List ℕ → List ℕ → List ℕ → List ℕ → Control → List ℕ → List ℕ → List ℕ → Type 0
+Driven fixed task values labels words marks r values' labels' words' =
+    state_from fixed r values' labels' words' marks ≡ paced task.pace (state_from fixed task.start values labels words marks)
 
 -- ---- steps by a tick
 
@@ -190,32 +195,21 @@ ticks_fewer limit before after r h g =
 -- ---- the deadline of a step alone
 
 module _ {deadline size : ℕ} {l : Live} {values turned words : List ℕ} where
-  -- The tick at which the op at the pc finishes.
-  pub alone_first : {at ticks : ℕ} → l.pc < size → at ≡ l.pc → Timing (get_or words at 0) l.pair.timing values turned ticks → l.clock + ticks < deadline
-      → Alone deadline size l values turned words (l.clock + ticks)
-  alone_first {at} {ticks} i e t h =
+  -- The tick at which the op at the pc finishes, or the given one if that is nearer.
+  pub alone_nearer : {at ticks r : ℕ} → l.pc < size → at ≡ l.pc → Timing (get_or words at 0) l.pair.timing values turned ticks
+      → l.clock ≤ deadline → r ≡ min (l.clock + ticks) deadline → Alone deadline size l values turned words r
+  alone_nearer {at} {ticks} {r} i e t c m =
       record {
-        near = omega (arith, h);
-        later = omega arith;
+        near = omega (arith, m);
+        later = omega (arith, m, c);
         ticks = ticks;
         timing = λ x. subst (λ (x : ℕ). Timing (get_or words x 0) l.pair.timing values turned ticks) e t;
-        which = inr refl;
-        most = λ x. omega arith;
+        which =
+            ⊎_elim (λ (x : ltb (l.clock + ticks) deadline ≡ true). inr (omega (arith, m, ltb-true (l.clock + ticks) deadline x)))
+            (λ (x : ltb (l.clock + ticks) deadline ≡ false). inl (omega (arith, m, ltb-false (l.clock + ticks) deadline x)))
+            (either (ltb (l.clock + ticks) deadline));
+        most = λ x. omega (arith, m);
         outside = λ o. absurd (omega (arith, i, o));
-      }
-
-  -- The given one, where it finishes no sooner.
-  pub alone_own : {at ticks : ℕ} → at ≡ l.pc → Timing (get_or words at 0) l.pair.timing values turned ticks → l.clock ≤ deadline
-      → deadline ≤ l.clock + ticks → Alone deadline size l values turned words deadline
-  alone_own {at} {ticks} e t c h =
-      record {
-        near = omega arith;
-        later = c;
-        ticks = ticks;
-        timing = λ x. subst (λ (x : ℕ). Timing (get_or words x 0) l.pair.timing values turned ticks) e t;
-        which = inl refl;
-        most = λ x. h;
-        outside = λ o. refl;
       }
 
   -- The given one where it isn't looked at.

@@ -2,7 +2,9 @@
 -- Assumes nothing.
 use Rattle.std.specs.Prelude.{ℕ, cond, List, ltb}
 use Rattle.model.specs.declared.Fixed.{Fixed}
-use Rattle.model.specs.Record.{State, state_from}
+use Rattle.model.specs.declared.Registers.{Registers}
+use Rattle.model.specs.Record.{State}
+use Rattle.model.specs.Registers.{state_over}
 use Rattle.model.specs.Step.{step, run_to}
 use Rattle.pacing.specs.declared.Pace.{Pace}
 use Rattle.pacing.specs.declared.Pace.TheVariants.{Once, Onward, Stride}
@@ -21,5 +23,5 @@ abbrev pub advanced : Pace → State → State
 advanced pace s = cond (fitting s) (paced pace s) s
 
 -- A task done, with these registers and this memory.
-abbrev pub performed : Fixed → Task → List ℕ → List ℕ → List ℕ → List ℕ → State
-performed fixed task values labels words marks = advanced task.pace (state_from fixed task.start values labels words marks)
+abbrev pub performed : Fixed → Task → Registers → List ℕ → List ℕ → State
+performed fixed task registers words marks = advanced task.pace (state_over fixed task.start registers words marks)

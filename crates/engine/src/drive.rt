@@ -1,16 +1,18 @@
 // The steps of a machine that fits: the hot loop, then one step of what it stopped at, in turn.
 ghost use Rattle.std.specs.Prelude.{◌+◌, ◌-◌, ◌≤◌, ◌≡◌, ltb, length};
 ghost use Rattle.model.specs.Numbers.{most_ticks};
+ghost use Rattle.model.specs.Registers.{state_over};
 ghost use Rattle.parts.specs.Stages.{Applies};
 ghost use Rattle.pacing.specs.Fitting.{InRanges};
-ghost use Rattle.engine.specs.Inner.Drive.{context_of, Alone, finish_of, Driven};
+ghost use Rattle.engine.specs.Advance.{paced};
+ghost use Rattle.engine.specs.Inner.Drive.{context_of, Alone, finish_of};
 
 use crate::Task;
 use crate::turned::turn;
 use decisions::decide;
 use labels::Bits;
 use model::numbers::REGISTER_COUNT;
-use model::{Control, Fixed};
+use model::{Control, Fixed, Registers};
 use pacing::setting::sets_label;
 use pacing::{looked_at, relabels};
 use parts::calls::{OpenCall, deadline_of};
@@ -36,13 +38,10 @@ fn alone(
     requires { (size ≤ length words.now) × (live.clock ≤ deadline) × (deadline ≤ most_ticks) }
     ensures { Alone deadline size live values.now turned.now words.now result }
 {
-    let pair = live.pair;
     if live.pc < size {
-        let at = index(live.pc);
-        let finish = live.clock + ticks_at(words[at], pair.timing, values, turned);
-        if finish < deadline {
-            return finish;
-        }
+        let word = words[index(live.pc)];
+        let finish = live.clock + ticks_at(word, live.pair.timing, values, turned);
+        return finish.min(deadline);
     }
     deadline
 }
@@ -54,11 +53,10 @@ fn finish_of(decision: Decision, live: Live, limit: u32) -> u32
     requires { Applies decision live limit }
     ensures { result ≡ finish_of decision live limit }
 {
-    let call = live.newest;
     match decision {
         Decision::Spend => limit,
         Decision::Stall(_) => live.clock,
-        Decision::Close(_) => call.end as u32 + 1,
+        Decision::Close(_) => live.newest.end as u32 + 1,
         Decision::Carry(ticks, _) => live.clock + ticks,
     }
 }
@@ -68,10 +66,7 @@ fn is_barred(tick: u32, decision: Decision, live: Live, limit: u32) -> bool
     requires { Applies decision live limit × (live.clock ≤ limit) }
     ensures { result ≡ ltb tick (finish_of decision live limit) }
 {
-    if tick < limit {
-        return tick < finish_of(decision, live, limit);
-    }
-    false
+    tick < limit && tick < finish_of(decision, live, limit)
 }
 
 // ---- both in turn
@@ -80,12 +75,10 @@ fn is_barred(tick: u32, decision: Decision, live: Live, limit: u32) -> bool
 fn context_of(size: u32, live: Live, deadline: u32) -> Context
     ensures { result ≡ context_of size live deadline }
 {
-    let call = live.newest;
-    let pair = live.pair;
     Context {
         size,
-        pair,
-        up: call.is_upcall(),
+        pair: live.pair,
+        up: live.newest.is_upcall(),
         deadline,
     }
 }
@@ -105,13 +98,12 @@ fn place_of(live: Live, deadline: u32) -> Place
 pub(in crate) fn drive(
     fixed: Fixed,
     task: Task,
-    values: &mut [u32; REGISTER_COUNT],
-    labels: &mut [Bits; REGISTER_COUNT],
+    registers: &mut Registers,
     words: &mut [u32],
     marks: &[Bits],
 ) -> Control
     requires { InRanges fixed task.start words.old marks.now }
-    ensures { Driven fixed task values.old labels.old words.old marks.now result values.new labels.new words.new }
+    ensures { state_over fixed result registers.new words.new marks.now ≡ paced task.pace (state_over fixed task.start registers.old words.old marks.now) }
 {
     let start = task.start;
     let pace = task.pace;
@@ -120,34 +112,34 @@ pub(in crate) fn drive(
     let looked = looked_at(once, fixed.size);
     let limit = fixed.limit;
     let tick = pace.tick(limit);
-    let mut turned = turn(labels);
+    let mut turned = turn(&registers.labels);
     let mut live = Live::from(start);
     if tick < live.clock {
         return start;
     }
     while live.end == 0 {
         let due = deadline_of(tick, live.newest);
-        let deadline = alone(due, looked, live, values, &turned, words);
+        let deadline = alone(due, looked, live, &registers.values, &turned, words);
         let context = context_of(fixed.size, live, deadline);
         let place = place_of(live, deadline);
-        let pause = sprint(context, place, values, &turned, words, marks);
+        let pause = sprint(context, place, &mut registers.values, &turned, words, marks);
         let there = pause.place;
         let reason = pause.reason;
         live = moved(live, deadline + 1 - there.left, there.pc);
         if (there.left < place.left) & single & (once | relabels(reason)) {
             return Control::from(live);
         }
-        let decision = decide(reason, fixed, live, values, labels);
+        let decision = decide(reason, fixed, live, registers);
         if is_barred(tick, decision, live, limit) {
             return Control::from(live);
         }
-        write_back(decision, live, values, labels);
+        write_back(decision, live, registers);
         live = control_after(live, limit, decision);
         if single {
             return Control::from(live);
         }
         if sets_label(decision) {
-            turned = turn(labels);
+            turned = turn(&registers.labels);
         }
     }
     Control::from(live)

@@ -7,13 +7,12 @@ mod drive;
 mod turned;
 
 ghost use Rattle.std.specs.Prelude.{◌≡◌};
-ghost use Rattle.model.specs.Record.{state_from};
+ghost use Rattle.model.specs.Registers.{state_over};
 ghost use Rattle.engine.specs.Advance.{performed};
 
 use drive::drive;
 use labels::Bits;
-use model::numbers::REGISTER_COUNT;
-use model::{Control, Fixed};
+use model::{Control, Fixed, Registers};
 use pacing::Pace;
 use pacing::ranges::is_fitting;
 
@@ -25,19 +24,19 @@ pub struct Task {
 }
 
 // The steps that are asked for, with the registers and memory as they are lent.
+#[tactic(auto, using(pacing::proofs::Fitting::ranges_of))]
 pub fn advance(
     fixed: Fixed,
     task: Task,
-    values: &mut [u32; REGISTER_COUNT],
-    labels: &mut [Bits; REGISTER_COUNT],
+    registers: &mut Registers,
     words: &mut [u32],
     marks: &[Bits],
 ) -> Control
-    ensures { state_from fixed result values.new labels.new words.new marks.now ≡ performed fixed task values.old labels.old words.old marks.now }
+    ensures { state_over fixed result registers.new words.new marks.now ≡ performed fixed task registers.old words.old marks.now }
 {
-    let start = task.start;
-    if is_fitting(fixed, start, words, marks) {
-        return drive(fixed, task, values, labels, words, marks);
+    if is_fitting(fixed, task.start, words, marks) {
+        drive(fixed, task, registers, words, marks)
+    } else {
+        task.start
     }
-    start
 }

@@ -22,11 +22,9 @@ pub(in crate) fn turn(labels: &[Bits; REGISTER_COUNT]) -> [Bits; TURNED_COUNT]
     ensures { Mirrors labels.now result }
 {
     let mut turned = [UNTURNED; TURNED_COUNT];
-    let mut i = 0usize;
-    while i < REGISTER_COUNT {
-        turned[i] = Label(labels[i]).restrictions();
-        turned[i + REGISTER_COUNT] = lacked_by(labels[i]);
-        i += 1;
+    for (i, label) in labels.iter().enumerate() {
+        turned[i] = Label(*label).restrictions();
+        turned[i + REGISTER_COUNT] = lacked_by(*label);
     }
     turned
 }

@@ -14,7 +14,7 @@ use causes::{Cause, Outcome};
 use engine::{Task, advance};
 use labels::Bits;
 use machine_record::{Machine, is_lent_whole};
-use model::Request;
+use model::{Registers, Request};
 use pacing::Pace;
 
 // What a call answers.
@@ -42,11 +42,14 @@ fn carried(machine: Machine, request: Request, words: &mut [u32], marks: &mut [B
 {
     let fixed = machine.fixed;
     let start = machine.control;
-    let mut values = machine.values;
-    let mut labels = machine.labels;
+    let values = machine.values;
+    let labels = machine.labels;
+    let mut registers = Registers { values, labels };
     let pace = pace_of(request, fixed.limit);
     let task = Task { start, pace };
-    let control = advance(fixed, task, &mut values, &mut labels, words, marks);
+    let control = advance(fixed, task, &mut registers, words, marks);
+    let values = registers.values;
+    let labels = registers.labels;
     Machine {
         fixed,
         control,

@@ -3,6 +3,7 @@
 -- listing, and what the programs print.
 pub mod Numbers
 pub mod Record
+pub mod Registers
 pub mod WellFormed
 pub mod Word
 pub mod Ops

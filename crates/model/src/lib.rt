@@ -7,7 +7,7 @@ pub mod judging;
 pub mod numbers;
 
 use labels::Bits;
-use numbers::MOST_GATES;
+use numbers::{MOST_GATES, REGISTER_COUNT};
 
 // A pc label and a timing label (the paper's place label p and clock label t).
 #[derive(Clone, Copy)]
@@ -60,4 +60,11 @@ pub struct Control {
     pub second: Call,
     pub end: u8,
     pub why: u8,
+}
+
+// The registers: the value and the label of each.
+#[derive(Clone, Copy)]
+pub struct Registers {
+    pub values: [u32; REGISTER_COUNT],
+    pub labels: [Bits; REGISTER_COUNT],
 }

@@ -2,11 +2,12 @@
 #![tactic(auto)]
 
 ghost use Rattle.std.specs.Prelude.{◌≡◌};
+ghost use Rattle.model.specs.Registers.{as_bank};
 ghost use Rattle.transitions.specs.Transitions.{moved, entered, opened, restored, ended, changed, closing_tick, control_after, labelled, caused, written_back};
 
 use labels::{Bits, Label};
 use model::numbers::{CLOCK_SPENT, HALTED, REGISTER_COUNT, STALLED};
-use model::{Call, Pair};
+use model::{Call, Pair, Registers};
 use parts::live::{Frame, Live};
 use parts::stages::{Change, Decision};
 use std::num::wrapping_add_u32;
@@ -128,33 +129,22 @@ fn write_label(change: Change, labels: &mut [Bits; REGISTER_COUNT])
 }
 
 // Closing an upcall, register 15 gets the cause if the timing label flows to its label.
-fn write_cause(
-    cause: u8,
-    pair: Pair,
-    values: &mut [u32; REGISTER_COUNT],
-    labels: &[Bits; REGISTER_COUNT],
-)
-    ensures { values.new ≡ caused cause pair values.old labels.now }
+fn write_cause(cause: u8, pair: Pair, registers: &mut Registers)
+    ensures { (registers.new.values ≡ caused cause pair registers.old.values registers.old.labels) × (registers.new.labels ≡ registers.old.labels) }
 {
-    if Label(pair.timing).flows_to(Label(labels[CAUSE_REGISTER])) {
-        values[CAUSE_REGISTER] = cause as u32;
+    if Label(pair.timing).flows_to(Label(registers.labels[CAUSE_REGISTER])) {
+        registers.values[CAUSE_REGISTER] = u32::from(cause);
     }
 }
 
 // What a decision writes under this control.
 #[tactic(auto, unfolding(crate::specs::Transitions::written_back))]
-pub fn write_back(
-    decision: Decision,
-    live: Live,
-    values: &mut [u32; REGISTER_COUNT],
-    labels: &mut [Bits; REGISTER_COUNT],
-)
-    ensures { record { values = values.new; labels = labels.new } ≡ written_back decision live (record { values = values.old; labels = labels.old }) }
+pub fn write_back(decision: Decision, live: Live, registers: &mut Registers)
+    ensures { as_bank registers.new ≡ written_back decision live (as_bank registers.old) }
 {
-    let pair = live.pair;
     match decision {
         Decision::Spend | Decision::Stall(_) => {}
-        Decision::Close(cause) => write_cause(cause, pair, values, labels),
-        Decision::Carry(_, change) => write_label(change, labels),
+        Decision::Close(cause) => write_cause(cause, live.pair, registers),
+        Decision::Carry(_, change) => write_label(change, &mut registers.labels),
     }
 }

@@ -39,7 +39,7 @@ pub loop-found-preserved : goal.loop-found-preserved
 loop-found-preserved c =
     watching_turn c.loop-found.invariant c.loop-found-test.true c.advance-control.ensures c.leads_within-opened.ensures
     (attempted_there c.args.label
-    (state_from c.args.machine.fixed c.loop-found.control c.loop-found.values c.loop-found.labels c.loop-found.words c.args.marks.now)
+    (state_from c.args.machine.fixed c.loop-found.control c.loop-found.registers.values c.loop-found.registers.labels c.loop-found.words c.args.marks.now)
     c.relabelling-word.ensures c.has_time.ensures c.releases.ensures)
     c.first_break-found.ensures c.steps_left-left-in-loop-found.ensures c.advance-control.auto.words
 

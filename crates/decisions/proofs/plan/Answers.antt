@@ -1,22 +1,16 @@
 -- `decisions::plan` meets its contract.
 -- Assumes nothing.
-use mathlib.Core.Path.{refl}
+use Rattle.std.proofs.Common.{refl}
 use Rattle.decisions.proofs.plan.Goals as goal
 
-pub returns-in-Out : goal.returns-in-Out
-returns-in-Out c = rw c.in-Out.is (record { is = λ words marks. refl; ready = tt; suits = λ left. tt })
-
 pub returns-in-Late : goal.returns-in-Late
-returns-in-Late c = rw c.in-Late.is (c.late.ensures _ _ _ _)
+returns-in-Late c = rw c.in-Late.is (c.late.ensures _ _ _)
 
 pub returns-in-Outside : goal.returns-in-Outside
-returns-in-Outside c = rw c.in-Outside.is (c.fault.ensures _ _ _ _ refl)
+returns-in-Outside c = rw c.in-Outside.is (c.fault.ensures _ _ _ refl)
 
 pub returns-in-Unreadable : goal.returns-in-Unreadable
-returns-in-Unreadable c = rw c.in-Unreadable.is (c.fault-in-Unreadable.ensures _ _ _ _ refl)
+returns-in-Unreadable c = rw c.in-Unreadable.is (c.fault-in-Unreadable.ensures _ _ _ refl)
 
 pub returns-in-Failed : goal.returns-in-Failed
-returns-in-Failed c = rw c.in-Failed.is (c.fault-in-Failed.ensures _ _ _ _ refl)
-
-pub returns-in-Rest : goal.returns-in-Rest
-returns-in-Rest c = rw c.in-Rest.is c.rest.ensures
+returns-in-Failed c = rw c.in-Failed.is (c.fault-in-Failed.ensures _ _ _ refl)

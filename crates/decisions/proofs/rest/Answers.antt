@@ -26,7 +26,7 @@ returns-in-18 c = op_changes _ c.op_of.ensures c.in-18.is refl refl (c.upcall.en
 
 pub returns-in-19 : goal.returns-in-19
 unfolding decode
-returns-in-19 c = op_decides _ c.op_of.ensures c.in-19.is refl refl (c.end_upcall.ensures _ _ _ _)
+returns-in-19 c = op_decides _ c.op_of.ensures c.in-19.is refl refl (c.end_upcall.ensures _ _ _)
 
 pub returns-in-20 : goal.returns-in-20
 unfolding decode table
@@ -38,7 +38,7 @@ returns-in-21 c = op_changes _ c.op_of.ensures c.in-21.is refl refl (c.return_ga
 
 pub returns-in-22 : goal.returns-in-22
 unfolding decode
-returns-in-22 c = op_decides _ c.op_of.ensures c.in-22.is refl refl (c.halt.ensures _ _ _ _)
+returns-in-22 c = op_decides _ c.op_of.ensures c.in-22.is refl refl (c.halt.ensures _ _ _)
 
 pub returns-in_default : goal.returns-in_default
-returns-in_default c = op_unknown _ c.op_of.ensures (search rules) (c.fault.ensures _ _ _ _ refl)
+returns-in_default c = op_unknown _ c.op_of.ensures (search rules) (c.fault.ensures _ _ _ refl)

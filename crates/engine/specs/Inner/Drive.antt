@@ -1,22 +1,13 @@
 -- The steps of a machine that fits, as the functions that do them promise them.
 -- Assumes nothing.
 use Rattle.std.specs.Prelude.{ℕ, ◌+◌, ◌≤◌, ◌<◌, ◌≡◌, ◌⊎◌, List, get_or}
-use Rattle.model.specs.declared.Fixed.{Fixed}
-use Rattle.model.specs.declared.Control.{Control}
-use Rattle.model.specs.Record.{state_from, is_upcall}
+use Rattle.model.specs.Record.{is_upcall}
 use Rattle.parts.specs.declared.live.Live.{Live}
 use Rattle.parts.specs.declared.stages.Decision.{Decision}
 use Rattle.parts.specs.declared.stages.Decision.TheVariants.{Spend, Stall, Close, Carry}
 use Rattle.parts.specs.Live.{call_of}
 use Rattle.turns.specs.declared.Context.{Context}
 use Rattle.turns.specs.Ticks.{Timing}
-use Rattle.engine.specs.declared.Task.{Task}
-use Rattle.engine.specs.Advance.{paced}
-
--- The steps were done.
-abbrev pub Driven : Fixed → Task → List ℕ → List ℕ → List ℕ → List ℕ → Control → List ℕ → List ℕ → List ℕ → Type 0
-Driven fixed task values labels words marks r values' labels' words' =
-    state_from fixed r values' labels' words' marks ≡ paced task.pace (state_from fixed task.start values labels words marks)
 
 -- What the hot loop is told.
 abbrev pub context_of : ℕ → Live → ℕ → Context

@@ -17,8 +17,8 @@ use Rattle.pacing.specs.declared.Pace.{Pace}
 use Rattle.pacing.specs.Pace.{is_once, is_stride}
 use Rattle.pacing.specs.SetsLabel.{sets_label}
 use Rattle.engine.specs.declared.Task.{Task}
-use Rattle.engine.specs.Inner.Drive.{context_of, Driven}
-use Rattle.engine.proofs.Driving.{Went, Due, Asked, going_start, past_start, driven_from, due_of, alone_asks, deadline_limited, ends_as, first_or_more, ticks_left, went_ended, ran, few_left, clock_there_limited, went_paused, applies_there, went_barred, fewer, went_single, went_more, still_mirrors}
+use Rattle.engine.specs.Inner.Drive.{context_of}
+use Rattle.engine.proofs.Driving.{Driven, Went, Due, Asked, going_start, past_start, driven_from, due_of, alone_asks, deadline_limited, ends_as, first_or_more, ticks_left, went_ended, ran, few_left, clock_there_limited, went_paused, applies_there, went_barred, fewer, went_single, went_more, still_mirrors}
 use Rattle.engine.proofs.drive.drive.Goals as goal
 use Rattle.engine.proofs.drive.drive.Goals.{After-alone-deadline, After-control_after-live, After-decide-decision, After-relabels, After-sprint-pause, At-loop-live, Start}
 
@@ -71,25 +71,25 @@ lives c = frames.lives _ c.from-live.ensures (started c).requires.stacked
 
 -- What holds at the loop's test.
 went : (c : At-loop-live) (p : Pace) → AskedAt c p
-    → Went (started c).args.fixed (task_at c p) (started c).args.values.now (started c).args.labels.now (started c).args.words.now
-    (started c).args.marks.now c.loop-live.live c.loop-live.values c.loop-live.labels c.loop-live.turned c.loop-live.words
+    → Went (started c).args.fixed (task_at c p) (started c).args.registers.now.values (started c).args.registers.now.labels (started c).args.words.now
+    (started c).args.marks.now c.loop-live.live c.loop-live.registers.values c.loop-live.registers.labels c.loop-live.turned c.loop-live.words
 went c p q = c.loop-live.invariant p q
 
 -- What is done from there is what was asked for.
 driven : (c : At-loop-live) {r : Control} {values labels words : List ℕ}
-    → Driven (started c).args.fixed (task_at c (started c).args.task.pace) (started c).args.values.now (started c).args.labels.now
+    → Driven (started c).args.fixed (task_at c (started c).args.task.pace) (started c).args.registers.now.values (started c).args.registers.now.labels
     (started c).args.words.now (started c).args.marks.now r values labels words
-    → Driven (started c).args.fixed (started c).args.task (started c).args.values.now (started c).args.labels.now
+    → Driven (started c).args.fixed (started c).args.task (started c).args.registers.now.values (started c).args.registers.now.labels
     (started c).args.words.now (started c).args.marks.now r values labels words
 driven c d =
-    driven_from (started c).args.task (started c).args.values.now (started c).args.labels.now (started c).args.words.now
+    driven_from (started c).args.task (started c).args.registers.now.values (started c).args.registers.now.labels (started c).args.words.now
     (started c).args.marks.now (lives c) d
 
 -- ---- with the deadline made
 
 -- The deadline that the hot loop is told.
 due : (c : After-alone-deadline) (p : Pace) → AskedAt (tested c) p
-    → Due (started (tested c)).args.fixed p (tested c).loop-live.live (tested c).loop-live.values (tested c).loop-live.turned (tested c).loop-live.words
+    → Due (started (tested c)).args.fixed p (tested c).loop-live.live (tested c).loop-live.registers.values (tested c).loop-live.turned (tested c).loop-live.words
     c.alone-deadline.result
 due c p q =
     due_of (started (tested c)).args.fixed q c.deadline_of-due.ensures.0 (tested c).looked_at-looked.ensures
@@ -157,10 +157,10 @@ module _ (c : After-control_after-live) where
         q.tick_is c.is_barred.ensures c.if-is_barred.false first c.write_back.ensures c.control_after-live.ensures
 
     -- What holds at the loop's test again.
-    went_now : {turned : List ℕ} → (is_once p || is_stride p) ≡ false → Mirrors c.write_back.new.labels turned
-        → Went (started test).args.fixed (task_at test p) (started test).args.values.now (started test).args.labels.now
-        (started test).args.words.now (started test).args.marks.now c.control_after-live.result c.write_back.new.values
-        c.write_back.new.labels turned there.sprint-pause.new.words
+    went_now : {turned : List ℕ} → (is_once p || is_stride p) ≡ false → Mirrors c.write_back.new.registers.labels turned
+        → Went (started test).args.fixed (task_at test p) (started test).args.registers.now.values (started test).args.registers.now.labels
+        (started test).args.words.now (started test).args.marks.now c.control_after-live.result c.write_back.new.registers.values
+        c.write_back.new.registers.labels turned there.sprint-pause.new.words
     went_now more mirrors =
         went_more (went test p q) (runs made) (due made p q) (context there) (place there) there.sprint-pause.ensures c.moved-live.ensures
         {decision = (stepped c).decide-decision.result} (record { is = (stepped c).decide-decision.ensures.0; applies = (stepped c).decide-decision.ensures.1 })
@@ -168,7 +168,7 @@ module _ (c : After-control_after-live) where
         more there.sprint-pause.auto.words mirrors
 
     -- Where no label was set, the turned ones are still those of the registers.
-    mirrors_now : sets_label (stepped c).decide-decision.result ≡ false → Mirrors c.write_back.new.labels test.loop-live.turned
+    mirrors_now : sets_label (stepped c).decide-decision.result ≡ false → Mirrors c.write_back.new.registers.labels test.loop-live.turned
     mirrors_now e =
         still_mirrors (went test p q) (runs made) (due made p q) (context there) (place there) there.sprint-pause.ensures c.moved-live.ensures
         {decision = (stepped c).decide-decision.result} (record { is = (stepped c).decide-decision.ensures.0; applies = (stepped c).decide-decision.ensures.1 })
@@ -176,9 +176,9 @@ module _ (c : After-control_after-live) where
 
     -- It was all that was asked for.
     single_now : {r : Control} → (is_once p || is_stride p) ≡ true → r ≡ control_of c.control_after-live.result
-        → Driven (started test).args.fixed (task_at test p) (started test).args.values.now (started test).args.labels.now
-        (started test).args.words.now (started test).args.marks.now r c.write_back.new.values
-        c.write_back.new.labels there.sprint-pause.new.words
+        → Driven (started test).args.fixed (task_at test p) (started test).args.registers.now.values (started test).args.registers.now.labels
+        (started test).args.words.now (started test).args.marks.now r c.write_back.new.registers.values
+        c.write_back.new.registers.labels there.sprint-pause.new.words
     single_now one e =
         went_single (went test p q) (runs made) (due made p q) (context there) (place there) there.sprint-pause.ensures c.moved-live.ensures
         {decision = (stepped c).decide-decision.result} (record { is = (stepped c).decide-decision.ensures.0; applies = (stepped c).decide-decision.ensures.1 })

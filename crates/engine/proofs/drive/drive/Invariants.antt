@@ -5,7 +5,7 @@ use Rattle.engine.proofs.drive.drive.Given as goal
 
 abbrev pub invariant-loop-live : goal.invariant-loop-live
 invariant-loop-live l =
-    Going l.fixed l.initial.values l.initial.labels l.initial.words l.marks l.once l.single l.limit l.tick l.initial.live l.values l.labels l.words l.turned l.live
+    Going l.fixed l.initial.registers.values l.initial.registers.labels l.initial.words l.marks l.once l.single l.limit l.tick l.initial.live l.registers.values l.registers.labels l.words l.turned l.live
 
 abbrev pub decreases-loop-live : goal.decreases-loop-live
 decreases-loop-live l =
