@@ -1,5 +1,5 @@
 // One turn of the hot loop: the common op of a fetched word.
-ghost use Rattle.std.specs.Prelude.{◌^◌, ◌<◌, ◌≤◌, length};
+ghost use Rattle.std.specs.Prelude.{◌<◌};
 ghost use Rattle.sprint.specs.Inner.Turns.{ClockTurn, Common, Forward};
 
 use crate::memory::{load, store};
@@ -40,7 +40,7 @@ pub(in crate) fn common(
     words: &mut [u32],
     marks: &[Bits],
 ) -> Turn
-    requires { (spot.pc < context.size) × (context.size < 2 ^ 32) × (context.size ≤ length words.old) × (context.size ≤ length marks.now) }
+    requires { spot.pc < context.size }
     ensures { Common context spot values.old turned.now words.old marks.now result values.new words.new × Forward spot result }
 {
     let w = spot.word;

@@ -6,21 +6,20 @@ use Rattle.sprint.proofs.memory.load.Goals as goal
 
 pub returns-then-rb-context : goal.returns-then-rb-context
 returns-then-rb-context c =
-    let check = c in
-    let inside = check in
-    let fields = inside in
     record {
       turn = assigned_turn _ _ _ _ _ _ c.assign.ensures;
       values =
           rw (
-            ← fields.a_of-a.ensures.0,
-            ← fields.b_of-b.ensures.0,
-            lt-ltb _ _ inside.if-rb-context.true,
-            ← check.index-at.ensures,
-            ← check.restrictions.ensures,
-            ← check.restrictions-then-rb-context.ensures,
-            ← check.may_go-ok.ensures,
-          ) (assigned_is _ _ _ _ _ _ fields.a_of-a.ensures.1 c.assign.ensures);
+            ← c.a_of-a.ensures.0,
+            ← c.b_of-b.ensures.0,
+            lt-ltb _ _ c.if-rb-context.true,
+            ← c.index-at.ensures,
+            ← c.mark_at.ensures,
+            ← c.word_at.ensures,
+            ← c.restrictions.ensures,
+            ← c.restrictions-then-rb-context.ensures,
+            ← c.may_go-ok.ensures,
+          ) (assigned_is _ _ _ _ _ _ c.a_of-a.ensures.1 c.assign.ensures);
     }
 
 pub returns : goal.returns

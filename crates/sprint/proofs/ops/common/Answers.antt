@@ -82,7 +82,7 @@ combined c {o = o} e d h = (
 pub returns-in-0 : goal.returns-in-0
 returns-in-0 c =
     let at = c in (
-      λ s labels m l t f. stays (held (goal.at.returns-in-0 c).After-op_of s labels) c.args.context.deadline c.args.spot.left (Rest 0) refl (record { word = no_op c.args.spot.word f c.op_of.ensures c.in-0.is; within = c.requires.0; op = none_uncommon }),
+      λ s labels m l t f. stays (held (goal.at.returns-in-0 c).After-op_of s labels) c.args.context.deadline c.args.spot.left (Rest 0) refl (record { word = no_op c.args.spot.word f c.op_of.ensures c.in-0.is; within = c.requires; op = none_uncommon }),
       stopping_forward c.args.spot (Rest 0) refl,
     )
 
@@ -181,6 +181,6 @@ returns-in-24 c = combined (goal.at.returns-in-24 c).After-op_of c.in-24.is refl
 pub returns-in_default : goal.returns-in_default
 returns-in_default c =
     let at = c in (
-      λ s labels m l t f. stays (held (goal.at.returns-in_default c).After-op_of s labels) c.args.context.deadline c.args.spot.left (Rest c.args.spot.word) refl (record { word = f; within = c.requires.0; op = uncommon c.args.spot.word c.op_of.ensures (search rules) }),
+      λ s labels m l t f. stays (held (goal.at.returns-in_default c).After-op_of s labels) c.args.context.deadline c.args.spot.left (Rest c.args.spot.word) refl (record { word = f; within = c.requires; op = uncommon c.args.spot.word c.op_of.ensures (search rules) }),
       stopping_forward c.args.spot (Rest c.args.spot.word) refl,
     )
