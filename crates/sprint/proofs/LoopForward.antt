@@ -27,11 +27,11 @@ module _ (spot : Spot) where
     timed_forward ticks pc p e = subst (Forward spot) (sym e) (in_time_lem ticks pc p)
 
     -- A branch or jump.
-    pub gone_forward : (up ok taken : Bool) (target : ℕ) → r ≡ gone spot up ok taken target → Forward spot r
+    pub gone_forward : (ok taken : Bool) (target : ℕ) → r ≡ gone spot ok taken target → Forward spot r
     unfolding gone
-    gone_forward up ok taken target e =
+    gone_forward ok taken target e =
         subst (Forward spot) (sym e)
         (choice (Forward spot) (ok && taken) (timed 1 target spot.left) _ (λ q. in_time_lem 1 target (omega arith))
         (λ q.
-        choice (Forward spot) (not ok && up) (Stopping Failed) (timed 1 (next spot) spot.left) (λ x. tt)
+        choice (Forward spot) (not ok && spot.context.up) (Stopping Failed) (timed 1 (next spot) spot.left) (λ x. tt)
         (λ x. in_time_lem 1 (next spot) (omega arith))))

@@ -263,14 +263,18 @@ towards : {x : ℕ} → x < label_count → Lacks (lacking x) x
 towards b = record { is = refl; below = b }
 
 -- The loop's view fits the state.
-pub record Here (s : State) (context : Context) (spot : Spot) (values labels turned words marks : List ℕ) : Type 0 where
+pub record Here (s : State) (spot : Spot) (values labels turned words marks : List ℕ) : Type 0 where
   pub mirrors : Mirrors labels turned
-  pub left : spot.left ≤ context.deadline + 1
+  pub left : spot.left ≤ spot.context.deadline + 1
   pub short : spot.pc + 1 < 2 ^ 32
-  pub timed : Timed (state_with s context spot.pc spot.left values labels words marks) context
+  pub timed : Timed (state_with s spot.context spot.pc spot.left values labels words marks) spot.context
 
 -- In such a state.
-module _ {s : State} {context : Context} {spot : Spot} {values labels turned words marks : List ℕ} (h : Here s context spot values labels turned words marks) where
+module _ {s : State} {spot : Spot} {values labels turned words marks : List ℕ} (h : Here s spot values labels turned words marks) where
+  -- What stays the same.
+  abbrev context : Context
+  context = spot.context
+
   -- The state.
   abbrev here : State
   here = state_with s context spot.pc spot.left values labels words marks
@@ -309,14 +313,14 @@ module _ {s : State} {context : Context} {spot : Spot} {values labels turned wor
 
   -- Op 1.
   pub immediate_turn : fetch here ≡ fetched w immediate → {r : Turn} {values' : List ℕ}
-      → taken r values' ≡ immediate_taken spot context.pair values turned → Turns r values' words
+      → taken r values' ≡ immediate_taken spot values turned → Turns r values' words
   unfolding table label_at
   immediate_turn f e =
       sets f refl _ _ _ e (omega arith) (rw (one_goes (lacked (a_field w) (a_below w)) (under context.pair.pc)))
 
   -- The arithmetic ops.
   pub arithmetic_turn : {o : Arithmetic} → context.pair.timing < label_count → fetch here ≡ fetched w (arithmetic o)
-      → {r : Turn} {values' : List ℕ} → taken r values' ≡ combined_taken o spot context.pair values turned → Turns r values' words
+      → {r : Turn} {values' : List ℕ} → taken r values' ≡ combined_taken o spot values turned → Turns r values' words
   unfolding table value_at label_at
   arithmetic_turn {o} t f e =
       sets f refl _ _ _ e (ticks_long o _ _)
@@ -326,7 +330,7 @@ module _ {s : State} {context : Context} {spot : Spot} {values labels turned wor
       ))
 
   -- Op 9.
-  pub load_turn : fetch here ≡ fetched w load → {r : Turn} {values' : List ℕ} → LoadTurn context spot values turned words marks r values'
+  pub load_turn : fetch here ≡ fetched w load → {r : Turn} {values' : List ℕ} → LoadTurn spot values turned words marks r values'
       → Turns r values' words
   unfolding table value_at label_at
   load_turn f e =
@@ -340,7 +344,7 @@ module _ {s : State} {context : Context} {spot : Spot} {values labels turned wor
 
   -- Op 10.
   pub store_turn : fetch here ≡ fetched w store → get_or marks (get_or values (b_field w) 0) 0 < label_count → {r : Turn} {words' : List ℕ}
-      → StoreTurn context spot values turned words marks r words' → Turns r values words'
+      → StoreTurn spot values turned words marks r words' → Turns r values words'
   unfolding table value_at label_at
   store_turn f b e =
       let to = get_or values (b_field w) 0 in
@@ -351,7 +355,7 @@ module _ {s : State} {context : Context} {spot : Spot} {values labels turned wor
 
   -- Ops 11 and 12: on at n where the comparison of the registers a and b holds.
   pub branch_turn : {o : Comparison} → context.pair.pc < label_count → fetch here ≡ fetched w (branch o)
-      → {a b : ℕ} → Fields w a b → {ok taken : Bool} {n x : ℕ} {r : Turn} → r ≡ gone spot context.up ok taken n
+      → {a b : ℕ} → Fields w a b → {ok taken : Bool} {n x : ℕ} {r : Turn} → r ≡ gone spot ok taken n
       → ok ≡ may_go (bit_or (get_or turned a 0) (get_or turned b 0)) x → x ≡ lacking context.pair.pc
       → taken ≡ holds o (get_or values a 0) (get_or values b 0) → n ≡ n_field w → Turns r values words
   unfolding table value_at label_at gone
@@ -361,14 +365,14 @@ module _ {s : State} {context : Context} {spot : Spot} {values labels turned wor
 
   -- Op 13.
   pub jump_turn : context.pair.pc < label_count → fetch here ≡ fetched w jump → {a b : ℕ} → Fields w a b → {ok : Bool} {x : ℕ} {r : Turn}
-      → r ≡ gone spot context.up ok true (get_or values b 0) → ok ≡ may_go (get_or turned b 0) x → x ≡ lacking context.pair.pc
+      → r ≡ gone spot ok true (get_or values b 0) → ok ≡ may_go (get_or turned b 0) x → x ≡ lacking context.pair.pc
       → Turns r values words
   unfolding table value_at label_at gone
   jump_turn p f {b = b} i {ok} e eo ex =
       goes_row due f refl ok true (get_or values b 0) (rw (← onward) e) (rw (eo, i.rb, one_goes (record { is = ex; below = p }) (held (b_field w) (b_below w)))) refl refl
 
   -- Op 14.
-  pub clock_turn : fetch here ≡ fetched w read_clock → {r : Turn} {values' : List ℕ} → ClockTurn context spot values turned r values'
+  pub clock_turn : fetch here ≡ fetched w read_clock → {r : Turn} {values' : List ℕ} → ClockTurn spot values turned r values'
       → Turns r values' words
   unfolding table label_at
   clock_turn f e =

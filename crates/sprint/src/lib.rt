@@ -66,11 +66,12 @@ pub fn sprint(
             return pausing(Reason::Unreadable, pc, left);
         }
         let spot = Spot {
+            context,
             word: words[at],
             pc,
             left,
         };
-        match common(spot, context, values, turned, words, marks) {
+        match common(spot, values, turned, words, marks) {
             Turn::Going { pc: there, ticks } => {
                 pc = there;
                 left -= ticks;

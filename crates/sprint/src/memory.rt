@@ -1,5 +1,5 @@
 // Ops 9 and 10, between a register and memory.
-ghost use Rattle.std.specs.Prelude.{◌≡◌, ◌&&◌, if◌then◌else◌, nat_lt, slice_index, slice_set};
+ghost use Rattle.std.specs.Prelude.{◌≡◌, ◌&&◌, if◌then◌else◌, nat_lt, slice_index, slice_index_or, slice_set};
 ghost use Rattle.principals.specs.Principals.{may_go};
 ghost use Rattle.labels.specs.Label.{lacking};
 ghost use Rattle.sprint.specs.Inner.Turns.{LoadTurn, StoreTurn};
@@ -7,34 +7,27 @@ ghost use Rattle.sprint.specs.Inner.Turns.{LoadTurn, StoreTurn};
 use labels::{Bits, Label, may_go};
 use model::numbers::REGISTER_COUNT;
 use parts::word::{a_of, b_of, index};
-use turns::{Context, MEMORY_TICKS, Spot, TURNED_COUNT, Turn, assign, next, timed};
+use turns::{MEMORY_TICKS, Spot, TURNED_COUNT, Turn, assign, next, timed};
 
-// The word at a place, and 0 where there is none. The hot loop runs on memory that is lent whole, so that the compiler finds
-// below the size no such test to make.
-fn word_at(words: &[u32], at: usize) -> u32
-    ensures { result ≡ slice_index words.now at }
+// What stands at a place, and x where there is nothing. The hot loop runs on memory that is lent whole, so the compiler
+// makes no such test where a place is below the size.
+fn item_or<T: Copy>(items: &[T], at: usize, x: T) -> T
+    ensures { result ≡ slice_index_or items.now at x }
 {
-    words.get(at).copied().unwrap_or(0)
-}
-
-// Its label likewise.
-fn mark_at(marks: &[Bits], at: usize) -> Bits
-    ensures { result ≡ slice_index marks.now at }
-{
-    marks.get(at).copied().unwrap_or(0)
+    items.get(at).copied().unwrap_or(x)
 }
 
 // Op 9: register a gets word Rb, where that is inside memory and the check passes.
 pub(in crate) fn load(
     spot: Spot,
-    context: Context,
     values: &mut [u32; REGISTER_COUNT],
     turned: &[Bits; TURNED_COUNT],
     words: &[u32],
     marks: &[Bits],
 ) -> Turn
-    ensures { LoadTurn context spot values.old turned.now words.now marks.now result values.new }
+    ensures { LoadTurn spot values.old turned.now words.now marks.now result values.new }
 {
+    let context = spot.context;
     let pair = context.pair;
     let a = a_of(spot.word);
     let b = b_of(spot.word);
@@ -43,9 +36,9 @@ pub(in crate) fn load(
         let at = index(rb);
         let held = Label(pair.pc).restrictions()
             | turned[b]
-            | Label(mark_at(marks, at)).restrictions();
+            | Label(item_or(marks, at, 0)).restrictions();
         let ok = may_go(held, turned[a + REGISTER_COUNT]);
-        return assign(values, spot, a, ok, word_at(words, at), MEMORY_TICKS);
+        return assign(values, spot, a, ok, item_or(words, at, 0), MEMORY_TICKS);
     }
     assign(values, spot, a, false, 0, MEMORY_TICKS)
 }
@@ -65,7 +58,7 @@ fn put_word(words: &mut [u32], marks: &[Bits], size: u32, to: u32, held: Bits, v
 {
     if to < size {
         let at = index(to);
-        if may_go(held, Label(mark_at(marks, at)).lacking()) {
+        if may_go(held, Label(item_or(marks, at, 0)).lacking()) {
             put(words, at, v);
         }
     }
@@ -74,14 +67,14 @@ fn put_word(words: &mut [u32], marks: &[Bits], size: u32, to: u32, held: Bits, v
 // Op 10: word Rb gets Ra.
 pub(in crate) fn store(
     spot: Spot,
-    context: Context,
     values: &[u32; REGISTER_COUNT],
     turned: &[Bits; TURNED_COUNT],
     words: &mut [u32],
     marks: &[Bits],
 ) -> Turn
-    ensures { StoreTurn context spot values.now turned.now words.old marks.now result words.new }
+    ensures { StoreTurn spot values.now turned.now words.old marks.now result words.new }
 {
+    let context = spot.context;
     let pair = context.pair;
     let a = a_of(spot.word);
     let b = b_of(spot.word);

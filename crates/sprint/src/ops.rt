@@ -8,20 +8,16 @@ use labels::{Bits, Label, may_go};
 use model::numbers::REGISTER_COUNT;
 use parts::stages::Reason;
 use parts::word::{a_of, b_of, n_of, op_of};
-use turns::{Context, Spot, TURNED_COUNT, Turn, assign, combine, go, immediate};
+use turns::{Spot, TURNED_COUNT, Turn, assign, combine, go, immediate};
 
 // A word without an op.
 const NO_OP: u32 = 0;
 
 // Op 14: register a gets the clock, which the ticks that are left tell.
-fn read_clock(
-    spot: Spot,
-    context: Context,
-    values: &mut [u32; REGISTER_COUNT],
-    turned: &[Bits; TURNED_COUNT],
-) -> Turn
-    ensures { ClockTurn context spot values.old turned.now result values.new }
+fn read_clock(spot: Spot, values: &mut [u32; REGISTER_COUNT], turned: &[Bits; TURNED_COUNT]) -> Turn
+    ensures { ClockTurn spot values.old turned.now result values.new }
 {
+    let context = spot.context;
     let pair = context.pair;
     let a = a_of(spot.word);
     let held = Label(pair.pc).restrictions() | Label(pair.timing).restrictions();
@@ -32,49 +28,51 @@ fn read_clock(
 
 // The common op of a fetched word. Op 0 has an arm of its own, so that the arms are counted from 0 and the op's number is
 // the place of its arm. What else such a word holds doesn't matter.
+// An enum of the ops, made of the number first, costs 7 to 35 in a hundred more instructions a step.
+// Registers and memory stay references: a struct that holds a `&mut` asks a clause of each function that takes it.
 pub(in crate) fn common(
     spot: Spot,
-    context: Context,
     values: &mut [u32; REGISTER_COUNT],
     turned: &[Bits; TURNED_COUNT],
     words: &mut [u32],
     marks: &[Bits],
 ) -> Turn
-    requires { spot.pc < context.size }
-    ensures { Common context spot values.old turned.now words.old marks.now result values.new words.new × Forward spot result }
+    requires { spot.pc < spot.context.size }
+    ensures { Common spot values.old turned.now words.old marks.now result values.new words.new × Forward spot result }
 {
     let w = spot.word;
+    let context = spot.context;
     let pair = context.pair;
     let p = Label(pair.pc);
     let a = a_of(w);
     let b = b_of(w);
     match op_of(w) {
         0 => Turn::Stopping(Reason::Rest(NO_OP)),
-        1 => immediate(spot, pair, values, turned),
-        2 => combine(Arithmetic::Add, spot, pair, values, turned),
-        3 => combine(Arithmetic::Subtract, spot, pair, values, turned),
-        4 => combine(Arithmetic::And, spot, pair, values, turned),
-        5 => combine(Arithmetic::Or, spot, pair, values, turned),
-        6 => combine(Arithmetic::Xor, spot, pair, values, turned),
-        7 => combine(Arithmetic::Less, spot, pair, values, turned),
-        8 => combine(Arithmetic::Multiply, spot, pair, values, turned),
-        9 => load(spot, context, values, turned, words, marks),
-        10 => store(spot, context, values, turned, words, marks),
+        1 => immediate(spot, values, turned),
+        2 => combine(Arithmetic::Add, spot, values, turned),
+        3 => combine(Arithmetic::Subtract, spot, values, turned),
+        4 => combine(Arithmetic::And, spot, values, turned),
+        5 => combine(Arithmetic::Or, spot, values, turned),
+        6 => combine(Arithmetic::Xor, spot, values, turned),
+        7 => combine(Arithmetic::Less, spot, values, turned),
+        8 => combine(Arithmetic::Multiply, spot, values, turned),
+        9 => load(spot, values, turned, words, marks),
+        10 => store(spot, values, turned, words, marks),
         11 => {
             let ok = may_go(turned[a] | turned[b], p.lacking());
-            go(spot, context.up, ok, values[a] == values[b], n_of(w))
+            go(spot, ok, values[a] == values[b], n_of(w))
         }
         12 => {
             let ok = may_go(turned[a] | turned[b], p.lacking());
-            go(spot, context.up, ok, values[a] < values[b], n_of(w))
+            go(spot, ok, values[a] < values[b], n_of(w))
         }
         13 => {
             let ok = may_go(turned[b], p.lacking());
-            go(spot, context.up, ok, true, values[b])
+            go(spot, ok, true, values[b])
         }
-        14 => read_clock(spot, context, values, turned),
-        23 => combine(Arithmetic::Divide, spot, pair, values, turned),
-        24 => combine(Arithmetic::Remainder, spot, pair, values, turned),
+        14 => read_clock(spot, values, turned),
+        23 => combine(Arithmetic::Divide, spot, values, turned),
+        24 => combine(Arithmetic::Remainder, spot, values, turned),
         _ => Turn::Stopping(Reason::Rest(w)),
     }
 }

@@ -3,7 +3,6 @@
 use Rattle.std.specs.Prelude.{ℕ, ◌+◌, ◌%◌, ◌^◌, Bool, cond, not, ◌&&◌, List, bit_or, nat_lt, slice_index, slice_set}
 use Rattle.principals.specs.Principals.{may_go}
 use Rattle.labels.specs.Label.{restrictions, lacking}
-use Rattle.model.specs.declared.Pair.{Pair}
 use Rattle.model.specs.Numbers.{register_count}
 use Rattle.model.specs.Word.{Arithmetic, a_field, b_field, c_field, n_field, compute}
 use Rattle.model.specs.Ops.{writable, arithmetic_ticks}
@@ -21,10 +20,10 @@ abbrev pub timed : ℕ → ℕ → ℕ → Turn
 timed ticks pc left = cond (nat_lt ticks left) (Going pc ticks) (Stopping Late)
 
 -- A branch or jump.
-unfoldable pub gone : Spot → Bool → Bool → Bool → ℕ → Turn
-gone spot up ok taken target =
+unfoldable pub gone : Spot → Bool → Bool → ℕ → Turn
+gone spot ok taken target =
     cond (ok && taken) (timed 1 target spot.left)
-    (cond (not ok && up) (Stopping Failed) (timed 1 (next spot) spot.left))
+    (cond (not ok && spot.context.up) (Stopping Failed) (timed 1 (next spot) spot.left))
 
 -- A turn and the values of the registers behind it.
 pub record Taken : Type 0 where
@@ -42,16 +41,16 @@ assigned before a ok v ticks spot =
     (cond (nat_lt ticks spot.left) (cond (ok && writable a && nat_lt a register_count) (slice_set before a v) before) before)
 
 -- Op 1: register a gets n.
-abbrev pub immediate_taken : Spot → Pair → List ℕ → List ℕ → Taken
-immediate_taken spot pair before turned =
+abbrev pub immediate_taken : Spot → List ℕ → List ℕ → Taken
+immediate_taken spot before turned =
     let w = spot.word in
-    assigned before (a_field w) (may_go (restrictions pair.pc) (slice_index turned (a_field w + register_count))) (n_field w) 1 spot
+    assigned before (a_field w) (may_go (restrictions spot.context.pair.pc) (slice_index turned (a_field w + register_count))) (n_field w) 1 spot
 
 -- An arithmetic op: register a gets what f computes from the registers b and c, as the model's row has it.
-abbrev pub combined_taken : Arithmetic → Spot → Pair → List ℕ → List ℕ → Taken
-combined_taken f spot pair before turned =
+abbrev pub combined_taken : Arithmetic → Spot → List ℕ → List ℕ → Taken
+combined_taken f spot before turned =
     let w = spot.word in
     let both = bit_or (slice_index turned (b_field w)) (slice_index turned (c_field w)) in
-    assigned before (a_field w) (may_go (bit_or (restrictions pair.pc) both) (slice_index turned (a_field w + register_count)))
+    assigned before (a_field w) (may_go (bit_or (restrictions spot.context.pair.pc) both) (slice_index turned (a_field w + register_count)))
     (compute f (slice_index before (b_field w)) (slice_index before (c_field w)))
-    (arithmetic_ticks f (may_go both (lacking pair.timing)) (slice_index before (c_field w))) spot
+    (arithmetic_ticks f (may_go both (lacking spot.context.pair.timing)) (slice_index before (c_field w))) spot

@@ -31,16 +31,18 @@ pub struct Context {
     pub deadline: u32,
 }
 
-// A fetched word, with the pc where it was fetched and the ticks that are left to the deadline, the present one counted.
+// A fetched word, with the pc where it was fetched and the ticks that are left to the deadline, the present one counted,
+// beside what stays the same.
 #[derive(Clone, Copy)]
 pub struct Spot {
+    pub context: Context,
     pub word: u32,
     pub pc: u32,
     pub left: u32,
 }
 
 // One turn of the loop: it did a step, with the pc that this left and the ticks that it took, or it stopped for a reason.
-// As a Result, whose Ok would hold pc and ticks in a struct, it costs three to nine in a hundred more instructions a step.
+// A Result, with pc and ticks in a struct in its Ok, costs 3 to 9 in a hundred more instructions a step.
 #[derive(Clone, Copy)]
 pub enum Turn {
     Going { pc: u32, ticks: u32 },
@@ -91,12 +93,12 @@ pub fn assign(
 // Op 1: register a gets n.
 pub fn immediate(
     spot: Spot,
-    pair: Pair,
     values: &mut [u32; REGISTER_COUNT],
     turned: &[Bits; TURNED_COUNT],
 ) -> Turn
-    ensures { taken result values.new ≡ immediate_taken spot pair values.old turned.now }
+    ensures { taken result values.new ≡ immediate_taken spot values.old turned.now }
 {
+    let pair = spot.context.pair;
     let a = a_of(spot.word);
     let ok = may_go(Label(pair.pc).restrictions(), turned[a + REGISTER_COUNT]);
     assign(values, spot, a, ok, n_of(spot.word), 1)
@@ -116,12 +118,12 @@ fn computed(f: Arithmetic, ok: bool, x: u32, y: u32) -> u32
 pub fn combine(
     f: Arithmetic,
     spot: Spot,
-    pair: Pair,
     values: &mut [u32; REGISTER_COUNT],
     turned: &[Bits; TURNED_COUNT],
 ) -> Turn
-    ensures { taken result values.new ≡ combined_taken (arithmetic_of f) spot pair values.old turned.now }
+    ensures { taken result values.new ≡ combined_taken (arithmetic_of f) spot values.old turned.now }
 {
+    let pair = spot.context.pair;
     let a = a_of(spot.word);
     let b = b_of(spot.word);
     let c = c_of(spot.word);
@@ -139,13 +141,13 @@ pub fn combine(
 // A branch that is taken or not, or a jump: on at the target if the check passes. In an upcall a failed check stops the
 // loop. Taken and not taken are two returns, which the compiler makes less of than of a chosen pc.
 #[tactic(auto, unfolding(crate::specs::Turns::gone))]
-pub fn go(spot: Spot, up: bool, ok: bool, taken: bool, target: u32) -> Turn
-    ensures { result ≡ gone spot up ok taken target }
+pub fn go(spot: Spot, ok: bool, taken: bool, target: u32) -> Turn
+    ensures { result ≡ gone spot ok taken target }
 {
     if ok & taken {
         return timed(1, target, spot.left);
     }
-    if (!ok) & up {
+    if (!ok) & spot.context.up {
         return Turn::Stopping(Reason::Failed);
     }
     timed(1, next(spot), spot.left)

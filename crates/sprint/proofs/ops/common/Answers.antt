@@ -30,12 +30,12 @@ word c = c.args.spot.word
 abbrev held : After-op_of → State → List ℕ → State
 held c s labels =
     let args = c.args in
-    state_with s args.context args.spot.pc args.spot.left args.values.now labels args.words.now args.marks.now
+    state_with s args.spot.context args.spot.pc args.spot.left args.values.now labels args.words.now args.marks.now
 
 -- The loop's view fits it.
 told : (c : After-op_of) (s : State) (labels : List ℕ) → Mirrors labels c.args.turned.now
-    → c.args.spot.left ≤ c.args.context.deadline + 1 → Timed (held c s labels) c.args.context
-    → Here s c.args.context c.args.spot c.args.values.now labels c.args.turned.now
+    → c.args.spot.left ≤ c.args.spot.context.deadline + 1 → Timed (held c s labels) c.args.spot.context
+    → Here s c.args.spot c.args.values.now labels c.args.turned.now
     c.args.words.now c.args.marks.now
 told c s labels m l t = record { mirrors = m; left = l; short = omega (arith, c.requires); timed = t }
 
@@ -52,24 +52,24 @@ op_is c f e d = op_of (word c) f c.op_of.ensures e d
 -- ---- bounds of labels, which are bytes
 
 -- The pc label.
-pc_below : (c : After-op_of) → c.args.context.pair.pc < label_count
+pc_below : (c : After-op_of) → c.args.spot.context.pair.pc < label_count
 pc_below c = search rules
 
 -- The timing label.
-timing_below : (c : After-op_of) → c.args.context.pair.timing < label_count
+timing_below : (c : After-op_of) → c.args.spot.context.pair.timing < label_count
 timing_below c = search rules
 
 -- The label of a word.
 mark_below : (c : After-op_of) (i : ℕ) → get_or c.args.marks.now i 0 < label_count
-mark_below c i = omega (arith, c.shared_slice_known-1.given i)
+mark_below c i = search rules
 
 -- ---- an arithmetic op
 
 -- Its turn, where the op has the number k.
 combined : (c : After-op_of) {k : ℕ} {o : Arithmetic} {r : Turn} {values' : List ℕ} → c.op_of.result ≡ k
     → decode k ≡ some (arithmetic o)
-    → taken r values' ≡ combined_taken o c.args.spot c.args.context.pair c.args.values.now c.args.turned.now
-    → Common c.args.context c.args.spot c.args.values.now c.args.turned.now
+    → taken r values' ≡ combined_taken o c.args.spot c.args.values.now c.args.turned.now
+    → Common c.args.spot c.args.values.now c.args.turned.now
     c.args.words.now c.args.marks.now r values' c.args.words.now
     × Forward c.args.spot r
 combined c {o = o} e d h = (
@@ -80,19 +80,17 @@ combined c {o = o} e d h = (
 -- ---- the needs
 
 pub returns-in-0 : goal.returns-in-0
-returns-in-0 c =
-    let at = c in (
-      λ s labels m l t f. stays (held (goal.at.returns-in-0 c).After-op_of s labels) c.args.context.deadline c.args.spot.left (Rest 0) refl (record { word = no_op c.args.spot.word f c.op_of.ensures c.in-0.is; within = c.requires; op = none_uncommon }),
-      stopping_forward c.args.spot (Rest 0) refl,
-    )
+returns-in-0 c = (
+  λ s labels m l t f. stays (held (goal.at.returns-in-0 c).After-op_of s labels) c.args.spot.context.deadline c.args.spot.left (Rest 0) refl (record { word = no_op c.args.spot.word f c.op_of.ensures c.in-0.is; within = c.requires; op = none_uncommon }),
+  stopping_forward c.args.spot (Rest 0) refl,
+)
 
 pub returns-in-1 : goal.returns-in-1
 unfolding decode
-returns-in-1 c =
-    let at = c in (
-      λ s labels m l t f. immediate_turn (told (goal.at.returns-in-1 c).After-op_of s labels m l t) (op_is (goal.at.returns-in-1 c).After-op_of f c.in-1.is refl) c.immediate.ensures,
-      timed_forward c.args.spot 1 _ (lit≤ tt) (assigned_turn _ _ _ _ _ _ c.immediate.ensures),
-    )
+returns-in-1 c = (
+  λ s labels m l t f. immediate_turn (told (goal.at.returns-in-1 c).After-op_of s labels m l t) (op_is (goal.at.returns-in-1 c).After-op_of f c.in-1.is refl) c.immediate.ensures,
+  timed_forward c.args.spot 1 _ (lit≤ tt) (assigned_turn _ _ _ _ _ _ c.immediate.ensures),
+)
 
 pub returns-in-2 : goal.returns-in-2
 unfolding decode
@@ -124,51 +122,45 @@ returns-in-8 c = combined (goal.at.returns-in-8 c).After-op_of c.in-8.is refl c.
 
 pub returns-in-9 : goal.returns-in-9
 unfolding decode
-returns-in-9 c =
-    let at = c in (
-      λ s labels m l t f. load_turn (told (goal.at.returns-in-9 c).After-op_of s labels m l t) (op_is (goal.at.returns-in-9 c).After-op_of f c.in-9.is refl) c.load.ensures,
-      timed_forward c.args.spot 3 _ (lit≤ tt) c.load.ensures.turn,
-    )
+returns-in-9 c = (
+  λ s labels m l t f. load_turn (told (goal.at.returns-in-9 c).After-op_of s labels m l t) (op_is (goal.at.returns-in-9 c).After-op_of f c.in-9.is refl) c.load.ensures,
+  timed_forward c.args.spot 3 _ (lit≤ tt) c.load.ensures.turn,
+)
 
 pub returns-in-10 : goal.returns-in-10
 unfolding decode
-returns-in-10 c =
-    let at = c in (
-      λ s labels m l t f. store_turn (told (goal.at.returns-in-10 c).After-op_of s labels m l t) (op_is (goal.at.returns-in-10 c).After-op_of f c.in-10.is refl) (mark_below (goal.at.returns-in-10 c).After-op_of _) c.store.ensures,
-      timed_forward c.args.spot 3 _ (lit≤ tt) c.store.ensures.turn,
-    )
+returns-in-10 c = (
+  λ s labels m l t f. store_turn (told (goal.at.returns-in-10 c).After-op_of s labels m l t) (op_is (goal.at.returns-in-10 c).After-op_of f c.in-10.is refl) (mark_below (goal.at.returns-in-10 c).After-op_of _) c.store.ensures,
+  timed_forward c.args.spot 3 _ (lit≤ tt) c.store.ensures.turn,
+)
 
 pub returns-in-11 : goal.returns-in-11
 unfolding decode
-returns-in-11 c =
-    let at = c in (
-      λ s labels m l t f. branch_turn (told (goal.at.returns-in-11 c).After-op_of s labels m l t) (pc_below (goal.at.returns-in-11 c).After-op_of) (op_is (goal.at.returns-in-11 c).After-op_of f c.in-11.is refl) (fields (goal.at.returns-in-11 c).After-op_of) c.go.ensures c.may_go-ok.ensures c.lacking.ensures refl c.n_of.ensures,
-      gone_forward c.args.spot _ _ _ _ c.go.ensures,
-    )
+returns-in-11 c = (
+  λ s labels m l t f. branch_turn (told (goal.at.returns-in-11 c).After-op_of s labels m l t) (pc_below (goal.at.returns-in-11 c).After-op_of) (op_is (goal.at.returns-in-11 c).After-op_of f c.in-11.is refl) (fields (goal.at.returns-in-11 c).After-op_of) c.go.ensures c.may_go-ok.ensures c.lacking.ensures refl c.n_of.ensures,
+  gone_forward c.args.spot _ _ _ c.go.ensures,
+)
 
 pub returns-in-12 : goal.returns-in-12
 unfolding decode
-returns-in-12 c =
-    let at = c in (
-      λ s labels m l t f. branch_turn (told (goal.at.returns-in-12 c).After-op_of s labels m l t) (pc_below (goal.at.returns-in-12 c).After-op_of) (op_is (goal.at.returns-in-12 c).After-op_of f c.in-12.is refl) (fields (goal.at.returns-in-12 c).After-op_of) c.go-in-12.ensures c.may_go-ok-in-12.ensures c.lacking-in-12.ensures refl c.n_of-in-12.ensures,
-      gone_forward c.args.spot _ _ _ _ c.go-in-12.ensures,
-    )
+returns-in-12 c = (
+  λ s labels m l t f. branch_turn (told (goal.at.returns-in-12 c).After-op_of s labels m l t) (pc_below (goal.at.returns-in-12 c).After-op_of) (op_is (goal.at.returns-in-12 c).After-op_of f c.in-12.is refl) (fields (goal.at.returns-in-12 c).After-op_of) c.go-in-12.ensures c.may_go-ok-in-12.ensures c.lacking-in-12.ensures refl c.n_of-in-12.ensures,
+  gone_forward c.args.spot _ _ _ c.go-in-12.ensures,
+)
 
 pub returns-in-13 : goal.returns-in-13
 unfolding decode
-returns-in-13 c =
-    let at = c in (
-      λ s labels m l t f. jump_turn (told (goal.at.returns-in-13 c).After-op_of s labels m l t) (pc_below (goal.at.returns-in-13 c).After-op_of) (op_is (goal.at.returns-in-13 c).After-op_of f c.in-13.is refl) (fields (goal.at.returns-in-13 c).After-op_of) c.go-in-13.ensures c.may_go-ok-in-13.ensures c.lacking-in-13.ensures,
-      gone_forward c.args.spot _ _ _ _ c.go-in-13.ensures,
-    )
+returns-in-13 c = (
+  λ s labels m l t f. jump_turn (told (goal.at.returns-in-13 c).After-op_of s labels m l t) (pc_below (goal.at.returns-in-13 c).After-op_of) (op_is (goal.at.returns-in-13 c).After-op_of f c.in-13.is refl) (fields (goal.at.returns-in-13 c).After-op_of) c.go-in-13.ensures c.may_go-ok-in-13.ensures c.lacking-in-13.ensures,
+  gone_forward c.args.spot _ _ _ c.go-in-13.ensures,
+)
 
 pub returns-in-14 : goal.returns-in-14
 unfolding decode
-returns-in-14 c =
-    let at = c in (
-      λ s labels m l t f. clock_turn (told (goal.at.returns-in-14 c).After-op_of s labels m l t) (op_is (goal.at.returns-in-14 c).After-op_of f c.in-14.is refl) c.read_clock.ensures,
-      timed_forward c.args.spot 1 _ (lit≤ tt) (assigned_turn _ _ _ _ _ _ c.read_clock.ensures.assigned),
-    )
+returns-in-14 c = (
+  λ s labels m l t f. clock_turn (told (goal.at.returns-in-14 c).After-op_of s labels m l t) (op_is (goal.at.returns-in-14 c).After-op_of f c.in-14.is refl) c.read_clock.ensures,
+  timed_forward c.args.spot 1 _ (lit≤ tt) (assigned_turn _ _ _ _ _ _ c.read_clock.ensures.assigned),
+)
 
 pub returns-in-23 : goal.returns-in-23
 unfolding decode
@@ -179,8 +171,7 @@ unfolding decode
 returns-in-24 c = combined (goal.at.returns-in-24 c).After-op_of c.in-24.is refl c.combine-in-24.ensures
 
 pub returns-in_default : goal.returns-in_default
-returns-in_default c =
-    let at = c in (
-      λ s labels m l t f. stays (held (goal.at.returns-in_default c).After-op_of s labels) c.args.context.deadline c.args.spot.left (Rest c.args.spot.word) refl (record { word = f; within = c.requires; op = uncommon c.args.spot.word c.op_of.ensures (search rules) }),
-      stopping_forward c.args.spot (Rest c.args.spot.word) refl,
-    )
+returns-in_default c = (
+  λ s labels m l t f. stays (held (goal.at.returns-in_default c).After-op_of s labels) c.args.spot.context.deadline c.args.spot.left (Rest c.args.spot.word) refl (record { word = f; within = c.requires; op = uncommon c.args.spot.word c.op_of.ensures (search rules) }),
+  stopping_forward c.args.spot (Rest c.args.spot.word) refl,
+)

@@ -7,7 +7,7 @@ pub returns : goal.returns
 returns c =
     let check = c in
     record {
-      clock = ((c.args.context.deadline + 1) % 2 ^ 32 + (2 ^ 32 - c.args.spot.left)) % 2 ^ 32;
+      clock = ((c.args.spot.context.deadline + 1) % 2 ^ 32 + (2 ^ 32 - c.args.spot.left)) % 2 ^ 32;
       short = omega arith;
       counted = omega arith;
       assigned =
