@@ -3,32 +3,11 @@
 #![tactic(auto)]
 
 use fire::{OUTPUT, fire_alone};
-use intake::read_whole;
-
-// More bytes than a text may have, so that a longer one is noticed.
-const SPACE: usize = 65536;
-
-// Says on standard error what went wrong.
-fn complain(rt: &HostRuntime, what: &str) {
-    let _ = rt.eprintln(what);
-}
-
-// Fires a text and writes what comes of it.
-fn reply(rt: &HostRuntime, text: &[u8]) {
-    let mut output = [0u8; OUTPUT];
-    let n = fire_alone(text, &mut output);
-    if rt.write_all(&output[..n]).is_err() {
-        complain(rt, "firing: standard output can't be written");
-    }
-}
+use replies::{complain, reply_to};
 
 fn main(rt: HostRuntime) {
-    let mut space = [0u8; SPACE];
-    let input = read_whole(&mut rt.stdin(), &mut space);
-    if input.whole {
-        let n = input.count;
-        reply(&rt, &space[..n]);
-    } else {
-        complain(&rt, "firing: standard input can't be read");
+    let mut output = [0u8; OUTPUT];
+    if let Err(failure) = reply_to(&mut rt.stdin(), &mut rt.stdout(), &mut output, fire_alone) {
+        complain(&rt, "firing", failure);
     }
 }
