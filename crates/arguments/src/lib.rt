@@ -14,35 +14,22 @@ use std::rt::Env;
 // A word of more bytes than a path may have is taken for none.
 const MOST_BYTES: usize = 4096;
 
-// A label, or none.
-#[derive(Clone, Copy)]
-pub enum Named {
-    Label(Bits),
-    Nothing,
-}
-
 // The number that argument k writes as a text does: one to ten digits without leading zeros, and nothing behind them.
+#[tactic(auto, using(crate::proofs::Words::no_number))]
 pub fn number_argument<E: Env>(env: &E, k: usize) -> Option<u64>
     ensures { (word : List ℕ) × (result ≡ number_alone word) }
 {
     let mut word = [0u8; MOST_BYTES];
-    let Ok(length) = env.arg(k, &mut word) else {
-        return None;
-    };
+    let length = env.arg(k, &mut word).ok()?;
     read_alone(&word[..length])
 }
 
 // The label that it writes so.
-pub fn label_argument<E: Env>(env: &E, k: usize) -> Named
+pub fn label_argument<E: Env>(env: &E, k: usize) -> Option<Bits>
     ensures { (word : List ℕ) × (result ≡ label_alone word) }
 {
-    let Some(value) = number_argument(env, k) else {
-        return Named::Nothing;
-    };
-    if value < LABEL_COUNT as u64 {
-        return Named::Label(value as Bits);
-    }
-    Named::Nothing
+    let value = number_argument(env, k)?;
+    (value < LABEL_COUNT as u64).then(|| value as Bits)
 }
 
 // Whether there is an argument k, of whatever length.

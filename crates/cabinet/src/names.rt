@@ -1,7 +1,9 @@
 // File names that are read, one a line.
-ghost use Rattle.std.specs.Prelude.{◌≤◌, ◌≡◌, length, take};
+ghost use Rattle.std.specs.Prelude.{◌≡◌, length, IfOk, IfSome};
+ghost use Rattle.replies.specs.Reply.{IsCountOf};
 ghost use Rattle.cabinet.specs.Names.{line_feed_in};
 
+use std::io;
 use std::io::Read;
 
 // No path has so many bytes.
@@ -10,122 +12,70 @@ pub const MOST_NAME: usize = 4096;
 // The byte that ends a line.
 const LINE_FEED: u8 = b'\n';
 
-// How a line ended.
+// Why a line is no name.
 #[derive(Clone, Copy)]
-pub enum Ending {
-    // Behind a whole name.
-    Whole,
-    // Behind a name that is longer than any path, of which only the start was kept.
+pub enum Unnamed {
+    // It is longer than any path.
     TooLong,
-    // There was no line any more.
-    Nothing,
     // The input can't be read.
     Failed,
 }
 
-// A name of so many bytes, and how its line ended.
-#[derive(Clone, Copy)]
-pub struct Line {
-    pub count: usize,
-    pub ending: Ending,
-}
-
-// The next byte of the input.
-#[derive(Clone, Copy)]
-enum Byte {
-    Some(u8),
-    End,
-    Failed,
+impl From<io::Error> for Unnamed {
+    fn from(_error: io::Error) -> Unnamed {
+        Unnamed::Failed
+    }
 }
 
 // Reads one byte: more would be waited for while a name is already whole.
-fn read_byte<R: Read>(input: &mut R) -> Byte {
+fn read_byte<R: Read>(input: &mut R) -> io::Result<Option<u8>> {
     let mut space = [0u8; 1];
-    match input.read(&mut space) {
-        Err(_) => Byte::Failed,
-        Ok(0) => Byte::End,
-        Ok(_) => Byte::Some(space[0]),
-    }
+    let count = input.read(&mut space)?;
+    Ok(space[..count].first().copied())
 }
 
-// The line of a name that took so many bytes of a buffer. A buffer that is full has no room for the byte that ends a path.
-fn line_of(count: usize, buf: &[u8]) -> Line
-    ensures { (result.count ≤ length buf.now) × (result.count ≡ length (take result.count buf.now)) }
+// The bytes of a name that took so many of a buffer. A buffer that is full has no room for the byte that ends a path.
+fn name_of(count: usize, buf: &[u8]) -> Result<Option<usize>, Unnamed>
+    ensures { IfOk result (λ name. IfSome name (λ n. IsCountOf n buf.now)) }
 {
     if count < buf.len() {
-        return Line {
-            count,
-            ending: Ending::Whole,
-        };
-    }
-    Line {
-        count: 0,
-        ending: Ending::TooLong,
+        Ok(Some(count))
+    } else {
+        Err(Unnamed::TooLong)
     }
 }
 
 // Keeps a byte of a name behind those before it, where there is room, and gives how many it has then.
 fn keep(byte: u8, count: usize, buf: &mut [u8]) -> usize {
-    if count < buf.len() {
-        buf[count] = byte;
-        return count + 1;
+    match buf.get_mut(count) {
+        Some(place) => {
+            *place = byte;
+            count + 1
+        }
+        None => count,
     }
-    count
 }
 
-// Reads a line of the input into the buffer. The last line may end with the input.
-pub fn read_name<R: Read>(input: &mut R, buf: &mut [u8]) -> Line
-    ensures { (result.count ≤ length buf.new) × (result.count ≡ length (take result.count buf.new)) }
+// Reads a name into the buffer, up to its line feed or the end of the input, and gives how many bytes it has, or `None`
+// where there is none any more.
+pub fn read_name<R: Read>(input: &mut R, buf: &mut [u8]) -> Result<Option<usize>, Unnamed>
+    ensures { IfOk result (λ name. IfSome name (λ n. IsCountOf n buf.new)) }
 {
     let mut count = 0;
     for _ in 0..u64::MAX {
-        match read_byte(input) {
-            Byte::Some(byte) => {
-                if byte == LINE_FEED {
-                    return line_of(count, buf);
-                }
-                count = keep(byte, count, buf);
-            }
-            Byte::End => {
-                return last_line(count, buf);
-            }
-            Byte::Failed => {
-                return Line {
-                    count: 0,
-                    ending: Ending::Failed,
-                };
-            }
+        match read_byte(input)? {
+            Some(LINE_FEED) => return name_of(count, buf),
+            Some(byte) => count = keep(byte, count, buf),
+            None if count == 0 => return Ok(None),
+            None => return name_of(count, buf),
         }
     }
-    Line {
-        count: 0,
-        ending: Ending::Nothing,
-    }
-}
-
-// What stood before the end of the input: a name without its line feed, or nothing.
-fn last_line(count: usize, buf: &[u8]) -> Line
-    ensures { (result.count ≤ length buf.now) × (result.count ≡ length (take result.count buf.now)) }
-{
-    if count == 0 {
-        return Line {
-            count: 0,
-            ending: Ending::Nothing,
-        };
-    }
-    line_of(count, buf)
+    Ok(None)
 }
 
 // A name with a line feed in it can't stand on a line of its own.
 pub fn has_line_feed(name: &[u8]) -> bool
     ensures { result ≡ line_feed_in name.now (length name.now) }
 {
-    let mut i = name.len();
-    while 0 < i {
-        i -= 1;
-        if name[i] == LINE_FEED {
-            return true;
-        }
-    }
-    false
+    name.contains(&LINE_FEED)
 }

@@ -3,48 +3,33 @@
 // read, one call, write: what is printed for a text is promised by that call.
 #![tactic(auto)]
 
-use arguments::{Named, has_argument, label_argument};
+use arguments::{has_argument, label_argument};
 use certify::{OUTPUT, certify_alone};
-use intake::read_whole;
 use labels::Bits;
-
-// More bytes than a text may have, so that a longer one is noticed.
-const SPACE: usize = 65536;
-
-// Says on standard error what went wrong.
-fn complain(rt: &HostRuntime, what: &str) {
-    let _ = rt.eprintln(what);
-}
+use replies::{complain, reply_to};
+use std::rt::Env;
 
 // The label that the one argument names.
-fn read_label(rt: &HostRuntime) -> Named {
-    if has_argument(rt, 2) {
-        return Named::Nothing;
+fn read_label(env: &impl Env) -> Option<Bits> {
+    if has_argument(env, 2) {
+        return None;
     }
-    label_argument(rt, 1)
-}
-
-// Certifies a text and writes what comes of it.
-fn reply(rt: &HostRuntime, label: Bits, text: &[u8]) {
-    let mut output = [0u8; OUTPUT];
-    let n = certify_alone(label, text, &mut output);
-    if rt.write_all(&output[..n]).is_err() {
-        complain(rt, "certifying: standard output can't be written");
-    }
+    label_argument(env, 1)
 }
 
 fn main(rt: HostRuntime) {
-    let named = read_label(&rt);
-    let Named::Label(label) = named else {
-        complain(&rt, "certifying: the argument is one label, 0 to 255");
+    let Some(label) = read_label(&rt) else {
+        complain(&rt, "certifying", "the argument is one label, 0 to 255");
         return;
     };
-    let mut space = [0u8; SPACE];
-    let input = read_whole(&mut rt.stdin(), &mut space);
-    if input.whole {
-        let n = input.count;
-        reply(&rt, label, &space[..n]);
-    } else {
-        complain(&rt, "certifying: standard input can't be read");
+    let mut output = [0u8; OUTPUT];
+    let replied = reply_to(
+        &mut rt.stdin(),
+        &mut rt.stdout(),
+        &mut output,
+        |text, out| { certify_alone(label, text, out) },
+    );
+    if let Err(failure) = replied {
+        complain(&rt, "certifying", failure);
     }
 }

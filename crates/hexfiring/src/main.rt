@@ -3,19 +3,18 @@
 // what is printed for an image is promised by that call.
 #![tactic(auto)]
 
-ghost use Rattle.std.specs.Prelude.{◌≡◌, length};
+ghost use Rattle.std.specs.Prelude.{◌≡◌, length, IfSome};
+ghost use Rattle.replies.specs.Reply.{IsCountOf};
 
-use arguments::{Named, has_argument, label_argument};
+use arguments::{has_argument, label_argument};
 use fire::OUTPUT;
 use hexfire::fire_hex_alone;
-use intake::read_whole;
+use intake::read_file;
 use labels::Bits;
-use std::fs::File;
+use replies::{Failure, SPACE, complain, read_input, write_output};
+use std::fmt::{Display, Formatter};
 use std::rt::Env;
-use std::str;
-
-// More bytes than an M text may have, so that a longer one is noticed.
-const TEXT_SPACE: usize = 65536;
+use std::{fmt, str};
 
 // A path of more bytes names no file.
 const MOST_PATH: usize = 4096;
@@ -26,9 +25,32 @@ const MOST_HEX: usize = 1048576;
 // One byte more is read, so that a longer text is noticed.
 const HEX_SPACE: usize = MOST_HEX + 1;
 
-// Says on standard error what went wrong.
-fn complain(rt: &HostRuntime, what: &str) {
-    let _ = rt.eprintln(what);
+// Why nothing was fired, or nothing printed.
+#[derive(Clone, Copy)]
+enum Refusal {
+    Arguments,
+    File,
+    LongInput,
+    Failed(Failure),
+}
+
+impl From<Failure> for Refusal {
+    fn from(failure: Failure) -> Refusal {
+        Refusal::Failed(failure)
+    }
+}
+
+impl Display for Refusal {
+    fn fmt<W: fmt::Write>(&self, f: &mut Formatter<W>) -> fmt::Result {
+        match self {
+            Refusal::Arguments => f.write_str(
+                "the arguments are a label, 0 to 255, and the file of an M text",
+            ),
+            Refusal::File => f.write_str("the file of the M text can't be read"),
+            Refusal::LongInput => write!(f, "standard input is longer than {MOST_HEX} bytes"),
+            Refusal::Failed(failure) => failure.fmt(f),
+        }
+    }
 }
 
 // Zeros, where HEX is read.
@@ -38,82 +60,47 @@ fn hex_space() -> [u8; HEX_SPACE]
     [0; HEX_SPACE]
 }
 
-// Fires an image and writes what comes of it.
-fn reply(rt: &HostRuntime, label: Bits, text: &[u8], hex: &[u8]) {
-    let mut output = [0u8; OUTPUT];
-    let n = fire_hex_alone(text, hex, label, &mut output);
-    if rt.write_all(&output[..n]).is_err() {
-        complain(rt, "hexfiring: standard output can't be written");
-    }
-}
-
-// Fires the HEX on standard input with this M text. A part of it isn't taken for the whole.
-fn fire_input(rt: &HostRuntime, label: Bits, text: &[u8]) {
-    let mut space = hex_space();
-    let input = read_whole(&mut rt.stdin(), &mut space);
-    if !input.whole {
-        complain(rt, "hexfiring: standard input can't be read");
-        return;
-    }
-    let n = input.count;
-    if MOST_HEX < n {
-        complain(rt, "hexfiring: standard input is longer than 1048576 bytes");
-        return;
-    }
-    reply(rt, label, text, &space[..n]);
-}
-
-// Says that the file can't be read.
-fn complain_of_file(rt: &HostRuntime) {
-    complain(rt, "hexfiring: the file of the M text can't be read");
-}
-
-// Fires it with the M text of a file.
-fn fire_file(rt: &HostRuntime, label: Bits, name: &str) {
-    let Ok(mut file) = File::open(rt, name) else {
-        complain_of_file(rt);
-        return;
-    };
-    let mut text = [0u8; TEXT_SPACE];
-    let input = read_whole(&mut file, &mut text);
-    if !input.whole {
-        complain_of_file(rt);
-        return;
-    }
-    let n = input.count;
-    fire_input(rt, label, &text[..n]);
-}
-
-// Fires it with the M text of the file that an argument names. One that is too long, or is not text, names none.
-fn fire_argument(rt: &HostRuntime, label: Bits, k: usize) {
+// Reads the file that an argument names. One that is too long, or is not text, names none.
+fn read_named(rt: &HostRuntime, k: usize, text: &mut [u8]) -> Option<usize>
+    ensures { IfSome result (λ n. IsCountOf n text.new) }
+{
     let mut name = [0u8; MOST_PATH];
-    let Ok(length) = rt.arg(k, &mut name) else {
-        complain_of_file(rt);
-        return;
-    };
-    let Ok(name) = str::from_utf8(&name[..length]) else {
-        complain_of_file(rt);
-        return;
-    };
-    fire_file(rt, label, name);
+    let length = rt.arg(k, &mut name).ok()?;
+    let name = str::from_utf8(&name[..length]).ok()?;
+    read_file(rt, name, text).ok()
+}
+
+// Fires the HEX on standard input with this M text, and writes what comes of it. A part of the HEX isn't taken for the
+// whole.
+fn fire_input(rt: &HostRuntime, label: Bits, text: &[u8]) -> Result<(), Refusal> {
+    let mut hex = hex_space();
+    let length = read_input(&mut rt.stdin(), &mut hex)?;
+    if MOST_HEX < length {
+        return Err(Refusal::LongInput);
+    }
+    let mut output = [0u8; OUTPUT];
+    let count = fire_hex_alone(text, &hex[..length], label, &mut output);
+    Ok(write_output(&mut rt.stdout(), &output[..count])?)
 }
 
 // The label that the first of two arguments names.
-fn read_label(rt: &HostRuntime) -> Named {
-    if !has_argument(rt, 2) || has_argument(rt, 3) {
-        return Named::Nothing;
+fn read_label(env: &impl Env) -> Option<Bits> {
+    if !has_argument(env, 2) || has_argument(env, 3) {
+        return None;
     }
-    label_argument(rt, 1)
+    label_argument(env, 1)
+}
+
+// Fires what the two arguments and standard input are.
+fn fire_arguments(rt: &HostRuntime) -> Result<(), Refusal> {
+    let label = read_label(rt).ok_or(Refusal::Arguments)?;
+    let mut text = [0u8; SPACE];
+    let length = read_named(rt, 2, &mut text).ok_or(Refusal::File)?;
+    fire_input(rt, label, &text[..length])
 }
 
 fn main(rt: HostRuntime) {
-    let named = read_label(&rt);
-    let Named::Label(label) = named else {
-        complain(
-            &rt,
-            "hexfiring: the arguments are a label, 0 to 255, and the file of an M text",
-        );
-        return;
-    };
-    fire_argument(&rt, label, 2);
+    if let Err(refusal) = fire_arguments(&rt) {
+        complain(&rt, "hexfiring", refusal);
+    }
 }

@@ -13,7 +13,7 @@ use std::fmt::{Display, Formatter};
 use std::io::{Eprint, Read, Write};
 
 // More bytes than a text may have, so that a longer one is noticed.
-const SPACE: usize = 65536;
+pub const SPACE: usize = 65536;
 
 // Why there was no reply.
 #[derive(Clone, Copy)]

@@ -3,63 +3,37 @@
 // Arguments, read, one call, write: what is printed for a text is promised by that call.
 #![tactic(auto)]
 
-use arguments::{Named, has_argument, label_argument, number_argument};
-use intake::read_whole;
+use arguments::{has_argument, label_argument, number_argument};
 use labels::Bits;
+use replies::{complain, reply_to};
+use std::rt::Env;
 use view::{OUTPUT, view_alone};
 
-// More bytes than a text may have, so that a longer one is noticed.
-const SPACE: usize = 65536;
-
-// Says on standard error what went wrong.
-fn complain(rt: &HostRuntime, what: &str) {
-    let _ = rt.eprintln(what);
-}
-
-// What the two arguments ask for: a label and a tick, or nothing.
-#[derive(Clone, Copy)]
-enum Asked {
-    View(Bits, u64),
-    Nothing,
-}
-
-fn read_arguments(rt: &HostRuntime) -> Asked {
-    if !has_argument(rt, 2) || has_argument(rt, 3) {
-        return Asked::Nothing;
+// The label and the tick that the two arguments ask for.
+fn read_arguments(env: &impl Env) -> Option<(Bits, u64)> {
+    if !has_argument(env, 2) || has_argument(env, 3) {
+        return None;
     }
-    let Named::Label(label) = label_argument(rt, 1) else {
-        return Asked::Nothing;
-    };
-    let Some(tick) = number_argument(rt, 2) else {
-        return Asked::Nothing;
-    };
-    Asked::View(label, tick)
-}
-
-// Views a text and writes what comes of it.
-fn reply(rt: &HostRuntime, label: Bits, tick: u64, text: &[u8]) {
-    let mut output = [0u8; OUTPUT];
-    let n = view_alone(label, tick, text, &mut output);
-    if rt.write_all(&output[..n]).is_err() {
-        complain(rt, "viewing: standard output can't be written");
-    }
+    Some((label_argument(env, 1)?, number_argument(env, 2)?))
 }
 
 fn main(rt: HostRuntime) {
-    let asked = read_arguments(&rt);
-    let Asked::View(label, tick) = asked else {
+    let Some((label, tick)) = read_arguments(&rt) else {
         complain(
             &rt,
-            "viewing: the arguments are a label, 0 to 255, and a tick",
+            "viewing",
+            "the arguments are a label, 0 to 255, and a tick",
         );
         return;
     };
-    let mut space = [0u8; SPACE];
-    let input = read_whole(&mut rt.stdin(), &mut space);
-    if input.whole {
-        let n = input.count;
-        reply(&rt, label, tick, &space[..n]);
-    } else {
-        complain(&rt, "viewing: standard input can't be read");
+    let mut output = [0u8; OUTPUT];
+    let replied = reply_to(
+        &mut rt.stdin(),
+        &mut rt.stdout(),
+        &mut output,
+        |text, out| { view_alone(label, tick, text, out) },
+    );
+    if let Err(failure) = replied {
+        complain(&rt, "viewing", failure);
     }
 }
