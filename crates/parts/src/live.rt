@@ -24,7 +24,8 @@ pub struct Frame {
     pub kind: Kind,
 }
 
-// The control of a machine that runs.
+// The control of a machine that runs. `end` and `why` are the record's own numbers: one from outside may have any byte there,
+// and `well_formed` refuses the others.
 #[derive(Clone, Copy)]
 pub struct Live {
     pub pc: u32,

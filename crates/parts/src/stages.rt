@@ -39,6 +39,7 @@ pub enum Change {
 }
 
 // What a step does: it spends the clock, stalls, closes the upcall with a cause, or carries a change out in so many ticks.
+// Why it stalls and the cause are the numbers as they are written: an enum's would only be turned into them by `as u8`.
 #[derive(Clone, Copy)]
 pub enum Decision {
     Spend,
