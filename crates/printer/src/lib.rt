@@ -126,6 +126,7 @@ fn listing_length(machine: Machine, viewer: Bits, words: &[u32], marks: &[Bits])
 
 // ---- writing: each function is lent the output and the place where the line before it ended, and gives the place where
 // its own last line ends, whether it fits or not.
+// A struct of output and place is no plainer: each contract would also have to say that it keeps its borrowed output.
 
 // Writes the listing.
 fn write_listing(

@@ -12,6 +12,7 @@ use model::format::{COMMA, LF, MOST_FIELDS};
 
 // Writes a line and gives how many bytes it takes. Where the rest is too short for it nothing is written, and the answer
 // is the same: so a line is measured by lending an empty rest. More numbers than a line has are no line, of 0 bytes.
+// That is 0 and not None, since callers add the lengths up: none of them hands in so many, and each would need an arm.
 pub fn write_line(out: &mut [u8], letter: u8, numbers: &[u64]) -> usize
     ensures { answer result out.new ≡ writing letter numbers.now out.old }
 {
