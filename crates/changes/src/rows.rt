@@ -18,7 +18,8 @@ use parts::live::Live;
 use parts::stages::Change;
 use parts::word::{a_of, b_of, c_of};
 
-// The rules of ops 15 and 16.
+// The rules of ops 15 and 16. An enum, which `rule_of` ties to the model's rule: of a closure that would have to be said by a
+// law at each call.
 #[derive(Clone, Copy)]
 pub enum Rule {
     Raise,

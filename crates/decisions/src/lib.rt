@@ -83,7 +83,8 @@ fn halt(live: Live) -> Decision
     }
 }
 
-// The ops 15 to 22, and an unknown one. A common op, which the hot loop does, is unknown here.
+// The ops 15 to 22, and an unknown one. A common op, which the hot loop does, is unknown here. The arms are the numbers of
+// the format, and the calls their names: constants would say each name twice.
 fn rest(w: u32, fixed: Fixed, live: Live, registers: &Registers) -> Decision
     ensures { Decides (Rest w) (plan_at w) fixed live registers.now result }
 {

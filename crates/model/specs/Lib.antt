@@ -3,7 +3,6 @@
 -- listing, and what the programs print.
 pub mod Numbers
 pub mod Record
-pub mod Registers
 pub mod WellFormed
 pub mod Word
 pub mod Ops
@@ -22,5 +21,7 @@ pub mod Program
 pub mod PairTest
 pub mod Facts
 pub mod HexFacts
+-- The registers as the code holds them, which the layers between cite.
+pub mod Registers
 pub mod View
 pub mod Inner
