@@ -3,15 +3,18 @@
 // and its listing written before the next name is waited for. Before a listing stands a line with the file's name.
 #![tactic(auto)]
 
+ghost use Rattle.std.specs.Io.{ReadsAtMost};
+
 mod names;
 
 use arguments::has_argument;
 use fire::{MOST_WORDS, OUTPUT, fire_whole};
-use intake::read_file;
+use intake::read_whole;
 use labels::Bits;
 use names::{MOST_NAME, Unnamed, has_line_feed, read_name};
 use replies::{SPACE, complain};
 use std::env::FillError;
+use std::fs::File;
 use std::io::Error;
 use std::rt::Env;
 use std::{io, str};
@@ -56,6 +59,14 @@ fn say_of(rt: &HostRuntime, what: &[u8], failure: Error) -> io::Result<()> {
 
 fn complain_of(rt: &HostRuntime, what: &[u8], failure: Error) {
     let _ = say_of(rt, what, failure);
+}
+
+// Reads a file whole.
+fn read_file(rt: &HostRuntime, name: &str, text: &mut [u8]) -> io::Result<usize>
+    ensures { ReadsAtMost result text.new }
+{
+    let mut file = File::open(rt, name)?;
+    read_whole(&mut file, text)
 }
 
 // Fires a file in the memory. A file that can't be read whole isn't fired. Fails where standard output doesn't take what is

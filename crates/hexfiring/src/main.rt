@@ -3,16 +3,16 @@
 // what is printed for an image is promised by that call.
 #![tactic(auto)]
 
-ghost use Rattle.std.specs.Prelude.{◌≡◌, length, IfSome};
-ghost use Rattle.replies.specs.Reply.{IsCountOf};
+ghost use Rattle.std.specs.Prelude.{◌≡◌, length};
 
 use arguments::{has_argument, label_argument};
 use fire::OUTPUT;
 use hexfire::fire_hex_alone;
-use intake::read_file;
+use intake::read_whole;
 use labels::Bits;
 use replies::{Failure, SPACE, complain, read_input, write_output};
 use std::fmt::{Display, Formatter};
+use std::fs::File;
 use std::rt::Env;
 use std::{fmt, str};
 
@@ -60,16 +60,6 @@ fn hex_space() -> [u8; HEX_SPACE]
     [0; HEX_SPACE]
 }
 
-// Reads the file that an argument names. One that is too long, or is not text, names none.
-fn read_named(rt: &HostRuntime, k: usize, text: &mut [u8]) -> Option<usize>
-    ensures { IfSome result (λ n. IsCountOf n text.new) }
-{
-    let mut name = [0u8; MOST_PATH];
-    let length = rt.arg(k, &mut name).ok()?;
-    let name = str::from_utf8(&name[..length]).ok()?;
-    read_file(rt, name, text).ok()
-}
-
 // Fires the HEX on standard input with this M text, and writes what comes of it. A part of the HEX isn't taken for the
 // whole.
 fn fire_input(rt: &HostRuntime, label: Bits, text: &[u8]) -> Result<(), Refusal> {
@@ -83,6 +73,22 @@ fn fire_input(rt: &HostRuntime, label: Bits, text: &[u8]) -> Result<(), Refusal>
     Ok(write_output(&mut rt.stdout(), &output[..count])?)
 }
 
+// Fires it with the M text of a file, which stays open meanwhile.
+fn fire_file(rt: &HostRuntime, label: Bits, name: &str) -> Result<(), Refusal> {
+    let mut file = File::open(rt, name).map_err(|_| Refusal::File)?;
+    let mut text = [0u8; SPACE];
+    let length = read_whole(&mut file, &mut text).map_err(|_| Refusal::File)?;
+    fire_input(rt, label, &text[..length])
+}
+
+// Fires it with the M text of the file that an argument names. One that is too long, or is not text, names none.
+fn fire_argument(rt: &HostRuntime, label: Bits, k: usize) -> Result<(), Refusal> {
+    let mut name = [0u8; MOST_PATH];
+    let length = rt.arg(k, &mut name).map_err(|_| Refusal::File)?;
+    let name = str::from_utf8(&name[..length]).map_err(|_| Refusal::File)?;
+    fire_file(rt, label, name)
+}
+
 // The label that the first of two arguments names.
 fn read_label(env: &impl Env) -> Option<Bits> {
     if !has_argument(env, 2) || has_argument(env, 3) {
@@ -94,9 +100,7 @@ fn read_label(env: &impl Env) -> Option<Bits> {
 // Fires what the two arguments and standard input are.
 fn fire_arguments(rt: &HostRuntime) -> Result<(), Refusal> {
     let label = read_label(rt).ok_or(Refusal::Arguments)?;
-    let mut text = [0u8; SPACE];
-    let length = read_named(rt, 2, &mut text).ok_or(Refusal::File)?;
-    fire_input(rt, label, &text[..length])
+    fire_argument(rt, label, 2)
 }
 
 fn main(rt: HostRuntime) {

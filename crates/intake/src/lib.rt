@@ -6,7 +6,6 @@ ghost use Rattle.std.specs.Prelude.{◌<◌, IfOk, length, take};
 ghost use Rattle.std.specs.Io.{ReadsAtMost};
 ghost use Rattle.std.specs.Io.KnownBytes.{Consumes, IsAtEnd};
 
-use std::fs::{File, Files};
 use std::io::{Read, Result};
 
 // Reads into buf until that is full or the input ends, and gives how many bytes came. The input may come in small pieces.
@@ -27,12 +26,4 @@ pub fn read_whole<R: Read>(input: &mut R, buf: &mut [u8]) -> Result<usize>
         at += more;
     }
     Ok(at)
-}
-
-// Reads a file so, by its name.
-pub fn read_file<R: Files>(files: &R, name: &str, buf: &mut [u8]) -> Result<usize>
-    ensures { ReadsAtMost result buf.new }
-{
-    let mut file = File::open(files, name)?;
-    read_whole(&mut file, buf)
 }
