@@ -1,13 +1,16 @@
--- Laws about lists: words put into a buffer from a place on.
+-- Laws about lists: words put into a buffer from a place on, and a list of what a function gives of each element.
 -- Assumes nothing.
-use Prim.Native.Nat.{ℕ, suc, ◌+◌, ◌*◌, ◌≤◌, ◌<◌, zero-le}
+use Prim.Native.Nat.{ℕ, suc, ◌+◌, ◌≤◌, ◌<◌}
 use native.Mathlib.Nat.{add-zero, add-suc, suc-add}
-use native.Mathlib.Numerals.{add-one}
 use native.Mathlib.Omega.{arith}
 use mathlib.Core.Path.{◌≡◌, refl, sym, ap, ◌∙◌}
-use mathlib.Core.List.{List, [], ◌∷◌, ◌++◌}
-use lib.ListN.{length, take, drop, get_or, set, length-take}
-use lib.Seq.{sets, length-sets, sets-eq, take-suc, take_all}
+use mathlib.Core.List.{List, [], ◌∷◌, ◌++◌, map, append_assoc}
+use lib.ListN.{length, take, drop, get_or, set}
+use lib.Seq.{sets, sets-eq}
+use denote.Param.Members.{Mut, Called}
+use borrow.Rule.Slice.PartMut.{put_mid}
+use Rattle.std.specs.Array.{IsMapOf}
+use Rattle.std.proofs.lemmas.List.{drop-drop, same_lists, length-map, get_or-map, map-id}
 
 -- Words put right behind others.
 pub sets_then :
@@ -21,62 +24,23 @@ sets_start b ws n e h =
     let m : 0 + length ws ≡ n = omega arith in
     sets-eq ws b 0 (omega arith) ∙ ap (λ (k : ℕ). ws ++ drop k b) m
 
--- ---- the words of a list, put element by element
+-- Words copied over a part.
+pub copied : (b ws : List ℕ) (i n : ℕ) → length ws ≡ n → i + n ≤ length b → put_mid i n b ws ≡ sets b i ws
+copied b ws i n e h = rw (drop-drop n i b, ← e) (sym (sets-eq ws b i (rw e h) ∙ append_assoc (take i b) ws (drop (i + length ws) b)))
 
-module _ {A : Type 0} where
-  -- Each element has w words, one element's behind another's.
-  pub record Rows (w : ℕ) (words : List A → List ℕ) : Type 0 where
-    pub none : words [] ≡ []
-    pub join : (xs ys : List A) → words (xs ++ ys) ≡ words xs ++ words ys
-    pub span : (xs : List A) → length (words xs) ≡ w * length xs
+-- What a function gives of each element.
+pub mapped :
+    {F A B : Type 0} {g : Mut F (A × Unit {0}) B} {f : F} {xs : List A} {ys : List B} {n : ℕ} (d : A) (h : A → B)
+    → IsMapOf g f xs ys n → length xs ≡ n → ((x : A) (y : B) (p q : F) → Called g p (x, tt) y q → y ≡ h x) → ys ≡ map h xs
+mapped {xs = xs} {ys = ys} d h calls long is =
+    same_lists ys (map h xs) (calls.long ∙ sym long ∙ sym (length-map xs h))
+    (λ k e below.
+    let within : k < length xs = omega (arith, calls.long) in
+    let step = calls.at k d e (omega (arith, calls.long)) in
+    is _ _ step.0 step.1 step.2 ∙ sym (get_or-map h xs k d e within))
 
-  -- The words of the first k elements have been put from a place on.
-  pub record Put (words : List A → List ℕ) (at : ℕ) (before : List ℕ) (xs : List A) (after : List ℕ) (k : ℕ) : Type 0 where
-    pub bound : k ≤ length xs
-    pub front : after ≡ sets before at (words (take k xs))
-
-  pub put_none :
-      {w : ℕ} {words : List A → List ℕ} (at : ℕ) (b : List ℕ) (xs : List A) → Rows w words → Put words at b xs b 0
-  put_none at b xs rows = record { bound = zero-le; front = rw rows.none refl }
-
-  pub put_more :
-      {w : ℕ} {words : List A → List ℕ} {at : ℕ} {before after next : List ℕ} {xs : List A} {k i : ℕ} (d : A) → Rows w words
-      → Put words at before xs after k → k < length xs → i ≡ at + w * k → next ≡ sets after i (words (get_or xs k d ∷ []))
-      → Put words at before xs next (k + 1)
-  put_more {w} {words} {at} {before} {after} {next} {xs} {k} {i} d rows h below e s =
-      let long : length (take k xs) ≡ k = omega (arith, length-take k xs) in
-      record {
-        bound = omega arith;
-        front =
-            rw
-            (add-one k, take-suc xs k d below, rows.join (take k xs) (get_or xs k d ∷ []))
-            (s ∙ rw h.front (sets_then before at (words (take k xs)) (words (get_or xs k d ∷ [])) (rw (rows.span (take k xs), long) e)));
-      }
-
-  pub put_all :
-      {words : List A → List ℕ} {at : ℕ} {before after : List ℕ} {xs : List A} {k : ℕ} → Put words at before xs after k
-      → length xs ≤ k → after ≡ sets before at (words xs)
-  put_all {words} {at} {before} {after} {xs} {k} h past =
-      h.front ∙ ap (λ (ys : List A). sets before at (words ys)) (take_all k xs past)
-
-  pub put_length :
-      {words : List A → List ℕ} {at : ℕ} {before after : List ℕ} {xs : List A} {k : ℕ} → Put words at before xs after k
-      → length after ≡ length before
-  put_length {words} {at} {before} {after} {xs} {k} h = ap length h.front ∙ length-sets before at (words (take k xs))
-
--- Numbers are their own words.
-abbrev pub itself : List ℕ → List ℕ
-itself xs = xs
-
-pub ones : Rows 1 itself
-ones = record { none = refl; join = λ xs ys. refl; span = λ xs. omega arith }
-
--- Places one after another, as the code and as `sets` count them.
-pub two : (n : ℕ) → n + 2 ≡ suc (suc n)
-two n = omega arith
-
-pub three : (n : ℕ) → n + 3 ≡ suc (suc (suc n))
-three n = omega arith
-
-pub four : (n : ℕ) → n + 4 ≡ suc (suc (suc (suc n)))
-four n = omega arith
+-- The same where it gives back each number.
+pub mapped_same :
+    {F : Type 0} {g : Mut F (ℕ × Unit {0}) ℕ} {f : F} {xs ys : List ℕ} {n : ℕ}
+    → IsMapOf g f xs ys n → length xs ≡ n → ((x y : ℕ) (p q : F) → Called g p (x, tt) y q → y ≡ x) → ys ≡ xs
+mapped_same {xs = xs} calls long is = mapped 0 (λ x. x) calls long is ∙ map-id xs

@@ -5,7 +5,7 @@ ghost use Rattle.std.specs.Prelude.{◌≡◌};
 ghost use Rattle.machine_record.specs.Struct.{record_of};
 ghost use Rattle.encoder.specs.Writing.{written_of, write as Writing·write};
 
-use encode::put_machine;
+pub use encode::words_of;
 use machine_record::Machine;
 pub use places::SPAN;
 
@@ -19,6 +19,6 @@ pub fn write(machine: Machine, buffer: &mut [u64]) -> bool
     if buffer.len() < SPAN {
         return false;
     }
-    put_machine(machine, buffer);
+    buffer[..SPAN].copy_from_slice(&words_of(machine));
     true
 }
