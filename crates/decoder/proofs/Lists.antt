@@ -1,18 +1,21 @@
--- Laws about lists: one given by its elements, an array filled from the front, and one list that begins with another.
+-- Laws about lists: one given by its elements, an array made by a function of the place, and one list that begins with another.
 -- Assumes nothing.
-use Prim.Native.Nat.{ℕ, zero, suc, ◌+◌, ◌≤◌, ◌<◌, zero-le}
+use Prim.Native.Nat.{ℕ, zero, suc, ◌+◌, ◌≤◌, ◌<◌}
 use native.Mathlib.Nat.{eq-or-lt_of_le}
-use native.Mathlib.Numerals.{add-one}
+use native.Mathlib.Nat.{add-zero}
 use native.Mathlib.Omega.{arith}
-use mathlib.Core.Path.{◌≡◌, refl, sym, ◌∙◌}
+use mathlib.Core.Path.{◌≡◌, refl, sym, subst, ◌∙◌}
 use mathlib.Core.Logic.{⊎_elim}
 use mathlib.Core.Bool.{true}
 use mathlib.Core.List.{List, [], ◌∷◌, ◌++◌}
 use lib.Dec.{eqb}
-use lib.ListN.{length, take, drop, get_or, set, length-set, length-append, get_or-append}
-use lib.Seq.{take-suc, take-suc-set, take_all, get_or_at}
+use lib.ListN.{length, take, drop, get_or, length-append, get_or-append}
+use lib.Seq.{take-suc, take_all, get_or_at}
 use borrow.Author.Tests.{eq-eqb, eqb-true}
 use Rattle.std.specs.List.{starts_with}
+use denote.Param.Members.{Mut, Called}
+use Rattle.std.specs.Array.{IsFromFnResult, IsFromFnResultFrom}
+use Rattle.std.proofs.lemmas.List.{same_lists}
 use Rattle.model.proofs.Truth.{and_iff}
 use Rattle.decoder.specs.Held.{tabulate, begins}
 
@@ -48,34 +51,26 @@ module _ {A : Type 0} where
       get_or-append (tabulate f n) (f n ∷ []) d k (rw (length_tabulate f n) below) ∙ get_d_tabulate f n k d below)
       (eq-or-lt_of_le within)
 
--- ---- an array of n elements filled from the front
+-- ---- an array made by a function of the place, where each call leaves a state in which I holds
 
-module _ {A : Type 0} where
-  -- The first k elements are f 0, f 1, ..
-  pub record Filled (f : ℕ → A) (n : ℕ) (xs : List A) (k : ℕ) : Type 0 where
-    pub bound : k ≤ n
-    pub whole : length xs ≡ n
-    pub front : take k xs ≡ tabulate f k
+module _ {F A : Type 0} (g : Mut F (ℕ × Unit {0}) A) (I : F → Type 0) (h : ℕ → A)
+    (call : (k : ℕ) (x : A) (p q : F) → I p → Called g p (k, tt) x q → (x ≡ h k) × I q) where
+  made_from :
+      (f : F) (xs : List A) (i n k : ℕ) (d : A) → I f → IsFromFnResultFrom g f xs i n → k < n
+      → get_or xs (i + k) d ≡ h (i + k)
+  made_from f xs i zero k d s r below = absurd (omega arith)
+  made_from f xs i (suc n) zero d s r below = rw (add-zero i) (r.2.1 d ∙ (call i r.1 f r.0 s r.3).0)
+  made_from f xs i (suc n) (suc k) d s r below =
+      let e : i + suc k ≡ (i + 1) + k = omega arith in
+      rw e (made_from r.0 xs (i + 1) n k d (call i r.1 f r.0 s r.3).1 r.4 (omega arith))
 
-  pub filled_none : (f : ℕ → A) (n : ℕ) (xs : List A) → length xs ≡ n → Filled f n xs 0
-  unfolding tabulate
-  filled_none f n xs e = record { bound = zero-le; whole = e; front = refl }
-
-  pub filled_more :
-      {f : ℕ → A} {n : ℕ} {xs : List A} {k : ℕ} {v : A} → Filled f n xs k → k < n → v ≡ f k → Filled f n (set xs k v) (k + 1)
-  unfolding tabulate
-  filled_more {f} {n} {xs} {k} {v} h below e =
-      let within : k < length xs = rw h.whole below in
-      record {
-        bound = omega arith;
-        whole = length-set xs k v ∙ h.whole;
-        front = rw (add-one k) (take-suc-set xs k v within ∙ rw (h.front, e) refl);
-      }
-
-  pub filled_all : {f : ℕ → A} {n : ℕ} {xs : List A} {k : ℕ} → Filled f n xs k → n ≤ k → xs ≡ tabulate f n
-  filled_all {f} {n} {xs} {k} h past =
-      let e : k ≡ n = omega (arith, h.bound) in
-      sym (take_all n xs (omega (arith, h.whole))) ∙ rw (← e) h.front
+  pub made : (f : F) (xs : List A) (n : ℕ) → I f → IsFromFnResult g f xs n → xs ≡ tabulate h n
+  made f xs n s calls =
+      same_lists xs (tabulate h n) (calls.long ∙ sym (length_tabulate h n))
+      (λ k d below.
+      let within : k < n = omega (arith, calls.long) in
+      let e : 0 + k ≡ k = omega arith in
+      rw (get_d_tabulate h n k d within) (subst (λ (j : ℕ). get_or xs j d ≡ h j) e (made_from f xs 0 n k d s calls.each within)))
 
 -- ---- one list begins with another
 

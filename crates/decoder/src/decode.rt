@@ -2,14 +2,14 @@
 ghost use Rattle.std.specs.Prelude.{◌≡◌, ◌<◌};
 ghost use Rattle.encoder.specs.Places.{span};
 ghost use Rattle.machine_record.specs.Struct.{record_of};
-ghost use Rattle.decoder.specs.Held.{word_at, low32, low8, low_label, pair_from, call_from, call_in, gate_in, fixed_in, control_in, registers_in, record_in};
+ghost use Rattle.decoder.specs.Held.{word_at, low32, low8, low_label, pair_from, call_from, call_in, gate_in, fixed_in, control_in, record_in};
 
 use encoder::places;
-use encoder::places::MOST_GATES;
 use labels::{Bits, LABEL_COUNT};
 use machine_record::Machine;
-use model::numbers::{REGISTER_COUNT, VALUE_COUNT};
+use model::numbers::VALUE_COUNT;
 use model::{Call, CallGate, Control, Fixed, Pair};
+use std::array;
 
 // Bytes are below this number.
 const BYTE_COUNT: u64 = 256;
@@ -18,7 +18,7 @@ const BYTE_COUNT: u64 = 256;
 fn word(buffer: &[u64], at: usize) -> u64
     ensures { result ≡ word_at buffer.now at }
 {
-    if at < buffer.len() { buffer[at] } else { 0 }
+    buffer.get(at).copied().unwrap_or(0)
 }
 
 // The low 32 bits of a word.
@@ -53,16 +53,15 @@ fn pair_from(pc: u64, timing: u64) -> Pair
 }
 
 // A call from its kind, return pc, pair and end tick.
+#[tactic(auto, unfolding(crate::specs::Held::call_from))]
 fn call_from(kind: u64, back: u32, pair: Pair, tick: u64) -> Call
     ensures { result ≡ call_from kind back pair tick }
 {
-    if kind == places::GATE_CALL {
-        return Call::Gate(back, pair);
+    match kind {
+        places::GATE_CALL => Call::Gate(back, pair),
+        places::UPCALL => Call::Upcall(back, pair, tick),
+        _ => Call::Empty,
     }
-    if kind == places::UPCALL {
-        return Call::Upcall(back, pair, tick);
-    }
-    Call::Empty
 }
 
 // The call in the words from `at` on.
@@ -92,30 +91,16 @@ fn gate_in(buffer: &[u64], at: usize) -> CallGate
     }
 }
 
-// The gates.
-fn gates_in(buffer: &[u64]) -> [CallGate; MOST_GATES]
-    ensures { result ≡ (fixed_in buffer.now).gates }
-{
-    let mut gates = [gate_in(buffer, places::FIRST_GATE); MOST_GATES];
-    let mut k = 0;
-    while k < MOST_GATES {
-        gates[k] = gate_in(buffer, places::FIRST_GATE + places::GATE_SPAN * k);
-        k += 1;
-    }
-    gates
-}
-
 // What no step changes.
 fn fixed_in(buffer: &[u64]) -> Fixed
     ensures { result ≡ fixed_in buffer.now }
 {
-    let gates = gates_in(buffer);
     Fixed {
         size: low32(word(buffer, places::SIZE)),
         limit: low32(word(buffer, places::LIMIT)),
         errorpc: low32(word(buffer, places::ERROR_PC)),
         count: low32(word(buffer, places::GATE_COUNT)),
-        gates,
+        gates: array::from_fn(|k| gate_in(buffer, places::FIRST_GATE + places::GATE_SPAN * k)),
     }
 }
 
@@ -140,44 +125,14 @@ fn control_in(buffer: &[u64]) -> Control
     }
 }
 
-// The register values.
-fn values_in(buffer: &[u64]) -> [u32; REGISTER_COUNT]
-    ensures { result ≡ (registers_in buffer.now).values }
-{
-    let mut values = [0u32; REGISTER_COUNT];
-    let mut k = 0;
-    while k < REGISTER_COUNT {
-        values[k] = low32(word(buffer, places::FIRST_VALUE + k));
-        k += 1;
-    }
-    values
-}
-
-// The register labels.
-fn labels_in(buffer: &[u64]) -> [Bits; REGISTER_COUNT]
-    ensures { result ≡ (registers_in buffer.now).labels }
-{
-    let mut labels: [Bits; REGISTER_COUNT] = [0; REGISTER_COUNT];
-    let mut k = 0;
-    while k < REGISTER_COUNT {
-        labels[k] = low_label(word(buffer, places::FIRST_LABEL + k));
-        k += 1;
-    }
-    labels
-}
-
 // The record that the words give.
 pub fn machine_in(buffer: &[u64]) -> Machine
     ensures { record_of result ≡ record_in buffer.now }
 {
-    let fixed = fixed_in(buffer);
-    let control = control_in(buffer);
-    let values = values_in(buffer);
-    let labels = labels_in(buffer);
     Machine {
-        fixed,
-        control,
-        values,
-        labels,
+        fixed: fixed_in(buffer),
+        control: control_in(buffer),
+        values: array::from_fn(|k| low32(word(buffer, places::FIRST_VALUE + k))),
+        labels: array::from_fn(|k| low_label(word(buffer, places::FIRST_LABEL + k))),
     }
 }

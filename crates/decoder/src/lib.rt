@@ -7,7 +7,6 @@ ghost use Rattle.decoder.specs.Held.{begins};
 ghost use Rattle.decoder.specs.Reading.{read_of, read as Reading·read};
 
 use decode::machine_in;
-use encoder::SPAN;
 use machine_record::Machine;
 
 mod decode;
@@ -25,7 +24,5 @@ pub fn read(buffer: &[u64]) -> Option<Machine>
     ensures { read_of result ≡ Reading·read buffer.now }
 {
     let machine = machine_in(buffer);
-    let mut words = [0u64; SPAN];
-    encoder::write(machine, &mut words);
-    begins(&words, buffer).then_some(machine)
+    begins(&encoder::words_of(machine), buffer).then_some(machine)
 }

@@ -1,7 +1,6 @@
 // A record's words, in the order of their places.
-ghost use Rattle.std.specs.Prelude.{◌≡◌, ◌++◌, length, map};
+ghost use Rattle.std.specs.Prelude.{◌≡◌, ◌++◌, map};
 ghost use Rattle.std.proofs.lemmas.List.Edits.{sets};
-ghost use Rattle.model.specs.Numbers.{most_gates};
 ghost use Rattle.machine_record.specs.Struct.{record_of};
 ghost use Rattle.encoder.specs.Layout.{kept_words, call_words, gate_words, fixed_words, control_words, words_of as Layout·words_of};
 ghost use Rattle.encoder.specs.Places.{size, pc, first_value};
@@ -50,9 +49,9 @@ fn gates_words(gates: [CallGate; MOST_GATES]) -> [[u64; places::GATE_SPAN]; MOST
     gates.map(gate_words)
 }
 
-// Puts what no step changes. There is room for as many gates as there may be.
+// Puts what no step changes.
 fn put_fixed(fixed: Fixed, words: &mut [u64; SPAN])
-    ensures { (words.new ≡ sets words.old size (fixed_words fixed)) × (length fixed.gates ≡ most_gates) }
+    ensures { words.new ≡ sets words.old size (fixed_words fixed) }
 {
     words[places::SIZE] = fixed.size.into();
     words[places::LIMIT] = fixed.limit.into();

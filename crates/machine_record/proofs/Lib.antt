@@ -1,3 +1,3 @@
 -- Laws about the record.
-mod Places
+mod Gates
 pub mod Faithful

@@ -1,3 +1,1 @@
 pub mod Struct
--- What only the contracts of inner functions cite.
-pub mod Inner

@@ -10,7 +10,7 @@ ghost use Rattle.machine_record.specs.Struct.{record_of};
 use labels::{Bits, Label};
 use model::numbers::{MOST_GATES, REGISTER_COUNT, ZERO_REGISTER};
 use model::{Call, CallGate, Control, Fixed, Pair};
-use wellformed::{calls_well_formed, end_in_range, fixed_in_range, gates_valid};
+use wellformed::{calls_well_formed, end_in_range, fixed_in_range, gates_valid, is_valid};
 
 mod wellformed;
 
@@ -24,18 +24,19 @@ pub struct Machine {
 }
 
 // Whether the lent words and their labels, the marks, are each at least as long as the size.
+#[tactic(auto, unfolding(model::specs::WellFormed::lent_whole))]
 pub fn is_lent_whole(size: u32, words: &[u32], marks: &[Bits]) -> bool
     ensures { result ≡ lent_whole size (lent words.now marks.now) }
 {
     let count = size as usize;
-    (count <= words.len()) & (count <= marks.len())
+    count <= words.len() && count <= marks.len()
 }
 
 // Whether a register or word has value 0 and the lowest label.
 pub fn is_blank(label: Bits, value: u32) -> bool
     ensures { result ≡ is_blank label value }
 {
-    (value == 0) & Label(label).is_lowest()
+    value == 0 && Label(label).is_lowest()
 }
 
 impl Machine {
@@ -76,25 +77,18 @@ impl Machine {
     }
 
     // Whether the record is well-formed.
+    #[tactic(auto, unfolding(model::specs::WellFormed::well_formed, model::specs::WellFormed::fixed_in_range, model::specs::WellFormed::zero_reads))]
     pub fn is_well_formed(self) -> bool
         ensures { result ≡ well_formed (record_of self) }
     {
         let fixed = self.fixed;
         let control = self.control;
-        let pair = control.pair;
-        let first = control.first;
-        let second = control.second;
-        let values = self.values;
-        let labels = self.labels;
-        let gates = fixed.gates;
-        if !fixed_in_range(fixed.size, fixed.limit, fixed.count) {
-            return false;
-        }
-        end_in_range(control.end, control.why)
-            & (control.clock <= fixed.limit)
-            & Label(pair.pc).is_valid_pair(Label(pair.timing))
-            & calls_well_formed(pair.pc, pair.timing, control.clock, first, second)
-            & is_blank(labels[ZERO_REGISTER], values[ZERO_REGISTER])
-            & gates_valid(gates, fixed.count)
+        fixed_in_range(fixed.size, fixed.limit, fixed.count)
+            && end_in_range(control)
+            && control.clock <= fixed.limit
+            && is_valid(control.pair)
+            && calls_well_formed(control)
+            && is_blank(self.labels[ZERO_REGISTER], self.values[ZERO_REGISTER])
+            && gates_valid(fixed.gates, fixed.count)
     }
 }

@@ -22,8 +22,7 @@ returns c =
     = c.copy_from_slice.ensures.after ∙ c.as_flattened.ensures.value ∙ rw c.gates_words-gates.ensures (gates_joined a.gates) in
     let four : List ℕ = a.size ∷ a.limit ∷ a.errorpc ∷ a.count ∷ [] in
     let begun = sets c.args.words.now 0 four in
-    let begun76 : length begun ≡ 76 = length-sets c.args.words.now 0 four ∙ words76 in (
-      rw (c.into.ensures, c.into-2.ensures, c.into-3.ensures, c.into-4.ensures, gates, copied begun (gates_words a.gates) 4 24 (rw (length_gates, all) refl) (omega arith))
-          refl,
-      all,
-    )
+    let begun76 : length begun ≡ 76 = length-sets c.args.words.now 0 four ∙ words76 in
+    rw
+    (c.into.ensures, c.into-2.ensures, c.into-3.ensures, c.into-4.ensures, gates, copied begun (gates_words a.gates) 4 24 (rw (length_gates, all) refl) (omega arith))
+    refl

@@ -1,23 +1,22 @@
--- `machine_record::wellformed::gates_valid` meets its contract. The loop's invariant: `valid` says whether the first i gates are.
+-- `machine_record::wellformed::gates_valid` meets its contract.
 -- Assumes nothing.
-use Prim.Native.Nat.{suc, ◌+◌}
-use mathlib.Core.Path.{◌≡◌, refl}
 use native.Mathlib.Omega.{arith}
-use Rattle.model.specs.WellFormed.{gates_valid}
+use borrow.Author.Rules.{rules}
+use mathlib.Core.Path.{◌≡◌, ◌∙◌}
+use lib.ListN.{length, take}
+use Rattle.std.proofs.Common.{tests}
+use Rattle.std.proofs.lemmas.Iterator.{YieldsList-from_slice}
+use Rattle.std.proofs.lemmas.Iterator.Search.{all_from_yields_List}
+use Rattle.model.specs.declared.CallGate.{CallGate}
+use Rattle.model.specs.Numbers.{most_gates}
+use Rattle.model.specs.WellFormed.{is_valid}
+use Rattle.machine_record.proofs.Gates.{first_gates}
 use Rattle.machine_record.proofs.wellformed.gates_valid.Goals as goal
-
-pub loop-i-init : goal.loop-i-init
-unfolding gates_valid
-loop-i-init c = (omega arith, refl)
-
-pub loop-i-preserved : goal.loop-i-preserved
-unfolding gates_valid
-loop-i-preserved c =
-    let next : c.loop-i.i + 1 ≡ suc c.loop-i.i = omega arith in
-    (omega (arith, c.loop-i-test.true), rw (next, c.loop-i.invariant.1, c.is_valid_pair-valid.ensures))
 
 pub returns : goal.returns
 returns c =
-    let loop = c.loop-i in
-    let all : loop.i ≡ c.args.count = omega (arith, c.loop-i-test.false, loop.invariant.0) in
-    rw (← all) loop.invariant.1
+    let gates = c.args.gates in
+    let all : length gates ≡ most_gates = search rules in
+    all_from_yields_List (λ (g : CallGate). is_valid g.pair) _ _ _ c.all.ensures.ran
+    (YieldsList-from_slice (take c.args.count gates) cc) (λ x b q k. search (rules, tests))
+    ∙ first_gates gates c.args.count (omega arith)

@@ -1,2 +1,0 @@
--- What the contracts of inner functions cite, which the public promises don't.
-pub mod WellFormed
