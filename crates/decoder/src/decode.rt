@@ -65,6 +65,7 @@ fn call_from(kind: u64, back: u32, pair: Pair, tick: u64) -> Call
 }
 
 // The call in the words from `at` on.
+#[tactic(auto, unfolding(crate::specs::Held::call_in))]
 fn call_in(buffer: &[u64], at: usize) -> Call
     requires { at < span }
     ensures { result ≡ call_in buffer.now at }
@@ -78,6 +79,7 @@ fn call_in(buffer: &[u64], at: usize) -> Call
 }
 
 // The gate in the words from `at` on.
+#[tactic(auto, unfolding(crate::specs::Held::gate_in))]
 fn gate_in(buffer: &[u64], at: usize) -> CallGate
     requires { at < span }
     ensures { result ≡ gate_in buffer.now at }
@@ -105,6 +107,7 @@ fn fixed_in(buffer: &[u64]) -> Fixed
 }
 
 // What a step changes besides registers and memory.
+#[tactic(auto, unfolding(crate::specs::Held::control_in))]
 fn control_in(buffer: &[u64]) -> Control
     ensures { result ≡ control_in buffer.now }
 {

@@ -13,6 +13,7 @@ mod encode;
 pub mod places;
 
 // Writes the record's words at the buffer's start. Writes nothing, and says so, where the buffer is too short.
+#[tactic(auto, unfolding(crate::specs::Writing::write))]
 pub fn write(machine: Machine, buffer: &mut [u64]) -> bool
     ensures { written_of result buffer.new ≡ Writing·write (record_of machine) buffer.old }
 {
