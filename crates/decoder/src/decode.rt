@@ -14,6 +14,7 @@ use std::array;
 // Bytes are below this number.
 const BYTE_COUNT: u64 = 256;
 
+// A slice that begins at the place is no plainer than buffer and place: the buffer may end before it.
 // Word `at` of the buffer, 0 behind its end.
 fn word(buffer: &[u64], at: usize) -> u64
     ensures { result ≡ word_at buffer.now at }
@@ -21,6 +22,7 @@ fn word(buffer: &[u64], at: usize) -> u64
     buffer.get(at).copied().unwrap_or(0)
 }
 
+// A generic one of the three below would need a trait with just this cast in each impl.
 // The low 32 bits of a word.
 fn low32(x: u64) -> u32
     ensures { result ≡ low32 x }

@@ -40,6 +40,7 @@ pub const CALL_TIMING_LABEL: usize = 3;
 // The tick at which an upcall ends.
 pub const CALL_END_TICK: usize = 4;
 
+// Kinds are numbers of the record's format: an enum of the three would be matched case by case with the enum Call, as they are.
 // No call is open here.
 pub const EMPTY: u64 = 0;
 // A gate call.
