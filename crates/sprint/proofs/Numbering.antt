@@ -15,16 +15,10 @@ abbrev pub NoneFrom : ℕ → ℕ → ℕ → Type 0
 NoneFrom m zero n = Unit {0}
 NoneFrom m (suc k) n = NoneFrom m k n × (n ≡ m + k → ⊥)
 
--- What is at least k and isn't k is above it.
-beyond : {k n : ℕ} → k ≤ n → (n ≡ k → ⊥) → k < n
-beyond {k} {n} l d =
-    ⊎_elim (λ (e : ltb k n ≡ true). ltb-true k n e)
-    (λ (e : ltb k n ≡ false). let g = ltb-false k n e in absurd (d (omega arith))) (either (ltb k n))
-
 -- What is at least m and none of the k numbers from there on is behind them all.
 behind : (m k : ℕ) {n : ℕ} → m ≤ n → NoneFrom m k n → m + k ≤ n
 behind m zero l h = omega arith
-behind m (suc k) l h = let r = beyond (behind m k l h.0) h.1 in omega arith
+behind m (suc k) l h = let r = behind m k l h.0 in omega (arith, r, h.1)
 
 -- ---- the numbers of common ops
 
@@ -73,7 +67,7 @@ above_uncommon w (suc n) h d e =
     behind_uncommon w 14 8 n ops (omega arith) (omega arith) (refl, (refl, (refl, (refl, (refl, (refl, (refl, (refl, tt)))))))))
     (λ (b : ltb (suc n) 23 ≡ false).
     let l : 23 ≤ suc n = ltb-false (suc n) 23 b in
-    rw (past_ops (suc n) (beyond (beyond l d) e)))
+    rw (past_ops (suc n) (omega (arith, l, d, e))))
     (either (ltb (suc n) 23))
 
 -- A number that is none of 0 to 14, 23 and 24 has no common op.
