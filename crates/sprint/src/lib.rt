@@ -1,5 +1,5 @@
 // The hot loop over the common ops: those that only write a value or go on elsewhere. The loop holds the pc and the ticks
-// that are left as locals. It does a common op where that finishes by the deadline: the limit, or the end tick of an
+// that are left in a local. It does a common op where that finishes by the deadline: the limit, or the end tick of an
 // upcall that is open. At anything else it stops and says why.
 #![tactic(auto)]
 
@@ -30,12 +30,14 @@ pub struct Pause {
     pub reason: Reason,
 }
 
-// A pause of its parts.
-fn pausing(reason: Reason, pc: u32, left: u32) -> Pause
-    ensures { result ≡ record { place = record { pc = pc; left = left }; reason = reason } }
-{
-    let place = Place { pc, left };
-    Pause { place, reason }
+impl Place {
+    // A pause here.
+    fn pause(self, reason: Reason) -> Pause
+        ensures { result ≡ record { place = self; reason = reason } }
+    {
+        let place = self;
+        Pause { place, reason }
+    }
 }
 
 // The hot loop. With memory that is lent too short it does nothing.
@@ -52,32 +54,31 @@ pub fn sprint(
     let size = index(context.size);
     let pair = context.pair;
     let lacked = Label(pair.pc).lacking();
-    let mut pc = start.pc;
-    let mut left = start.left;
+    let mut place = start;
     if (words.len() < size) | (marks.len() < size) {
-        return pausing(Reason::Out, pc, left);
+        return place.pause(Reason::Out);
     }
-    while 0 < left {
-        if context.size <= pc {
-            return pausing(Reason::Outside, pc, left);
+    while 0 < place.left {
+        if context.size <= place.pc {
+            return place.pause(Reason::Outside);
         }
-        let at = index(pc);
+        let at = index(place.pc);
         if !may_go(Label(marks[at]).restrictions(), lacked) {
-            return pausing(Reason::Unreadable, pc, left);
+            return place.pause(Reason::Unreadable);
         }
         let spot = Spot {
             context,
             word: words[at],
-            pc,
-            left,
+            pc: place.pc,
+            left: place.left,
         };
         match common(spot, values, turned, words, marks) {
-            Turn::Going { pc: there, ticks } => {
-                pc = there;
-                left -= ticks;
+            Turn::Going { pc, ticks } => {
+                place.pc = pc;
+                place.left -= ticks;
             }
-            Turn::Stopping(reason) => return pausing(reason, pc, left),
+            Turn::Stopping(reason) => return place.pause(reason),
         }
     }
-    pausing(Reason::Out, pc, left)
+    place.pause(Reason::Out)
 }

@@ -3,9 +3,9 @@
 use Rattle.sprint.proofs.Loop.{Runs}
 use Rattle.sprint.proofs.sprint.Given as goal
 
-abbrev pub invariant-loop-left : goal.invariant-loop-left
-invariant-loop-left l =
-    Runs l.context l.turned l.marks l.initial.pc l.initial.left l.initial.values l.initial.words l.pc l.left l.values l.words
+abbrev pub invariant-loop-place : goal.invariant-loop-place
+invariant-loop-place l =
+    Runs l.context l.turned l.marks l.initial.place.pc l.initial.place.left l.initial.values l.initial.words l.place.pc l.place.left l.values l.words
 
-abbrev pub decreases-loop-left : goal.decreases-loop-left
-decreases-loop-left l = l.left
+abbrev pub decreases-loop-place : goal.decreases-loop-place
+decreases-loop-place l = l.place.left
