@@ -154,6 +154,7 @@ pub fn go(spot: Spot, ok: bool, taken: bool, target: u32) -> Turn
 }
 
 // The ticks of the common op of the word w, under the timing label t. For any other word it says 1.
+// By the format's numbers, as the hot loop's match: an enum made of a number for these five ops would be no plainer.
 pub fn ticks_at(
     w: u32,
     t: Bits,
