@@ -27,7 +27,8 @@ impl From<io::Error> for Unnamed {
     }
 }
 
-// Reads one byte: more would be waited for while a name is already whole.
+// Reads one byte: more would be waited for while a name is already whole. The library's `bytes` would try a read that was
+// interrupted again, which counts as a failed one here.
 fn read_byte<R: Read>(input: &mut R) -> io::Result<Option<u8>> {
     let mut space = [0u8; 1];
     let count = input.read(&mut space)?;

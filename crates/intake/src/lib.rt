@@ -17,6 +17,7 @@ pub fn read_whole<R: Read>(input: &mut R, buf: &mut [u8]) -> Result<usize>
     ensures bytes { IfOk result (λ n. Consumes (R.remaining input.old) (R.remaining input.new) (take n buf.new)) }
     ensures end { IfOk result (λ n. n < length buf.old → IsAtEnd (R.remaining input.new)) }
 {
+    // The library reads to the end into a `Vec` alone, and programs take no memory for a text.
     let mut at = 0;
     while at < buf.len() {
         let more = input.read(&mut buf[at..])?;
