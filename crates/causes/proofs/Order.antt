@@ -4,7 +4,7 @@ use mathlib.Core.Path.{◌≡◌, refl}
 use mathlib.Core.Bool.{true, false}
 use mathlib.Core.List.{List, [], ◌∷◌, ◌++◌}
 use Rattle.causes.specs.declared.Cause.{Cause}
-use Rattle.causes.specs.declared.Outcome.TheVariants.{Done, Refused}
+use Rattle.causes.specs.Causes.{Done, Refused}
 use Rattle.causes.specs.Tests.{Test, ◌or_else◌, first_refusal}
 use Rattle.causes.proofs.Numbers.{done_or_refused}
 

@@ -1,10 +1,8 @@
 -- The numbers of the refusals: document 01, "Text", its table, and the rows that requests added.
 -- Assumes nothing.
-use Rattle.std.specs.Prelude.{ℕ, Bool, true, false}
+use Rattle.std.specs.Prelude.{ℕ, Bool, true, false, Result, Ok, Err}
 use Rattle.causes.specs.declared.Cause.{Cause}
 use Rattle.causes.specs.declared.Cause.TheVariants.{TextLength, MalformedLine, OutOfRange, OutOfOrder, InvalidPair, ShortMemory, IllFormed, ShortOutput, ZeroRegister, TickAboveLimit, MalformedRecord, MisplacedByte, GatePair}
-use Rattle.causes.specs.declared.Outcome.{Outcome}
-use Rattle.causes.specs.declared.Outcome.TheVariants.{Done, Refused}
 
 -- The number of a cause, row by row of the table.
 abbrev pub cause_number : Cause → ℕ
@@ -21,6 +19,16 @@ cause_number TickAboveLimit = 10
 cause_number MalformedRecord = 11
 cause_number MisplacedByte = 12
 cause_number GatePair = 13
+
+-- How a call of load, step, run, print or view ended: it was carried out, or refused.
+pub data Outcome : Type 0 where
+  Done : Outcome
+  Refused : Cause → Outcome
+
+-- The outcome that a call answers.
+abbrev pub outcome_of : Result Unit Cause → Outcome
+outcome_of (Ok u) = Done
+outcome_of (Err cause) = Refused cause
 
 -- The number of an outcome: that of the cause, or 0. No two outcomes have one number: proofs/Numbers.antt.
 abbrev pub number_of : Outcome → ℕ

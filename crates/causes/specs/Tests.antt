@@ -2,8 +2,7 @@
 -- Assumes nothing.
 use Rattle.std.specs.Prelude.{Bool, cond, List, [], ◌∷◌}
 use Rattle.causes.specs.declared.Cause.{Cause}
-use Rattle.causes.specs.declared.Outcome.{Outcome}
-use Rattle.causes.specs.declared.Outcome.TheVariants.{Done, Refused}
+use Rattle.causes.specs.Causes.{Outcome, Done, Refused}
 
 -- Where the test fails, the refusal; else what follows.
 abbrev pub unless : {A : Type 0} → Bool → A → A → A

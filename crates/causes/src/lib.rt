@@ -1,9 +1,9 @@
-// The refusals: a case for each row of the table of document 01, "Text", and for each that a request added; and how a call
-// ended.
+// The refusals: a case for each row of the table of document 01, "Text", and for each that a request added. A call of load,
+// step, run, print or view that was carried out answers Ok, and one that is refused Err with its cause.
 #![tactic(auto)]
 
 ghost use Rattle.std.specs.Prelude.{◌≡◌};
-ghost use Rattle.causes.specs.Causes.{number_of, cause_number};
+ghost use Rattle.causes.specs.Causes.{outcome_of, number_of, cause_number};
 
 // Why a call is refused, in the table's order.
 #[derive(Clone, Copy)]
@@ -36,16 +36,10 @@ pub enum Cause {
     GatePair,
 }
 
-// How a call of load, step, run, print or view ended: it was carried out, or refused.
-#[derive(Clone, Copy)]
-pub enum Outcome {
-    Done,
-    Refused(Cause),
-}
-
 impl Cause {
-    // The number in the table.
-    fn number(self) -> u8
+    // The number in the table. No discriminants: no enum has two that are equal, and that no two causes have one number
+    // (same_outcome) is to be what refuses those.
+    pub fn number(self) -> u8
         ensures { result ≡ cause_number self }
     {
         match self {
@@ -66,14 +60,12 @@ impl Cause {
     }
 }
 
-impl Outcome {
-    // The refusal's number, or 0.
-    pub fn number(self) -> u8
-        ensures { result ≡ number_of self }
-    {
-        match self {
-            Outcome::Done => 0,
-            Outcome::Refused(cause) => cause.number(),
-        }
+// The number of how a call ended: the refusal's, or 0.
+pub fn number_of(ended: Result<(), Cause>) -> u8
+    ensures { result ≡ number_of (outcome_of ended) }
+{
+    match ended {
+        Ok(()) => 0,
+        Err(cause) => cause.number(),
     }
 }

@@ -4,8 +4,7 @@
 -- Assumes nothing.
 use Rattle.std.specs.Prelude.{ℕ, zero, suc, ◌+◌, ◌-◌, ◌<◌, ◌≤◌, ◌≡◌, Bool, true, false, not, ◌&&◌, ◌||◌, cond, List, [], ◌∷◌, ◌++◌, length, drop, get_or}
 use Rattle.labels.specs.Label.{flows, reflection}
-use Rattle.causes.specs.declared.Outcome.{Outcome}
-use Rattle.causes.specs.Causes.{number_of, is_done}
+use Rattle.causes.specs.Causes.{Outcome, number_of, is_done}
 use Rattle.model.specs.Numbers.{letter_v, letter_x}
 use Rattle.model.specs.declared.Fixed.{Fixed}
 use Rattle.model.specs.Record.{Bank, State, in_upcall}

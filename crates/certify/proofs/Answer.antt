@@ -6,8 +6,7 @@ use mathlib.Core.Bool.{false}
 use mathlib.Core.List.{List, [], ◌∷◌}
 use native.Mathlib.Omega.{arith}
 use lib.ListN.{length, take}
-use Rattle.causes.specs.declared.Outcome.TheVariants.{Done}
-use Rattle.causes.specs.Causes.{number_of, is_done}
+use Rattle.causes.specs.Causes.{Done, number_of, is_done}
 use Rattle.model.specs.Numbers.{letter_v, letter_x}
 use Rattle.model.specs.Record.{Bank, State, machine_of, lent}
 use Rattle.model.specs.Load.{Loading, load}

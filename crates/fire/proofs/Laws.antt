@@ -7,8 +7,7 @@ use mathlib.Core.Bool.{Bool, true, false, cond}
 use mathlib.Core.List.{List, [], ◌∷◌, ◌++◌}
 use lib.Dec.{leb}
 use lib.ListN.{length, drop}
-use Rattle.causes.specs.declared.Outcome.TheVariants.{Done}
-use Rattle.causes.specs.Causes.{number_of, is_done}
+use Rattle.causes.specs.Causes.{Done, number_of, is_done}
 use Rattle.causes.proofs.Numbers.{is_done_lem}
 use borrow.Author.Tests.{le-leb, lt-leb}
 use Rattle.model.specs.Record.{Bank}

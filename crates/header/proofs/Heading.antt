@@ -4,25 +4,20 @@
 use Prim.Native.Nat.{ℕ}
 use mathlib.Core.Path.{◌≡◌, refl, sym, ap, ◌∙◌}
 use mathlib.Core.Bool.{true, false, ◌&&◌}
-use mathlib.Core.List.{List}
 use lib.Dec.{leb}
 use Rattle.causes.specs.declared.Cause.{Cause}
 use Rattle.causes.specs.declared.Cause.TheVariants.{TextLength, MalformedLine}
-use Rattle.causes.specs.declared.Outcome.{Outcome}
-use Rattle.causes.specs.declared.Outcome.TheVariants.{Done, Refused}
-use Rattle.causes.specs.Causes.{is_done}
+use Rattle.causes.specs.Causes.{Outcome, Done, Refused, is_done}
 use Rattle.causes.specs.Tests.{first_refusal}
 use Rattle.causes.proofs.Numbers.{done_or_refused}
 use Rattle.causes.proofs.Order.{all_pass}
 use Rattle.model.specs.declared.format.Line.{Line}
 use Rattle.model.specs.declared.format.Line.TheVariants.{M, G, R, W, Malformed}
 use Rattle.model.specs.declared.judging.Header.{Header}
-use Rattle.model.specs.Record.{Bank, Machine, lent}
+use Rattle.model.specs.Record.{Bank, Machine}
 use Rattle.model.specs.Load.{machine_of_header, header_in_range, header_tests, Verdict, refuse, accept, tried, judge_m, judge_first, judge_header, Loading}
 use Rattle.model.proofs.Truth.{clash}
-use Rattle.machine_record.specs.Struct.{record_of}
-use Rattle.header.specs.declared.Loaded.{Loaded}
-use Rattle.header.specs.Loading.{loading_of, IsRefusal, headed}
+use Rattle.header.specs.Loading.{headed}
 
 -- ---- the verdict
 
@@ -59,35 +54,20 @@ header_judged {h = h} b m o e =
     (rw (b.whole, b.line)) ∙ ap (λ (z : Outcome). tried z 1 (accept (machine_of_header h))) (sym e)
 
 -- It is in its ranges, where its tests pass.
-pub header_in_range_lem : (h : Header) (m : Bank) (o : Outcome) → o ≡ first_refusal (header_tests h m) → o ≡ Done
-    → header_in_range h ≡ true
+pub header_in_range_lem : (h : Header) (m : Bank) → Done ≡ first_refusal (header_tests h m) → header_in_range h ≡ true
 unfolding header_tests
-header_in_range_lem h m o e z = (all_pass (header_tests h m) (sym e ∙ z)).0
+header_in_range_lem h m e = (all_pass (header_tests h m) (sym e)).0
 
 -- ---- the answer
 
--- A refusal, where the verdict is one.
-pub refused_headed : (bytes : ℕ) (first : Line) (r : Loaded) (c : Cause) (n : ℕ) (w l : List ℕ) → IsRefusal r c n
-    → judge_header bytes first (lent w l) ≡ refuse c n
-    → loading_of r w l ≡ headed (judge_header bytes first (lent w l)) (lent w l)
-refused_headed bytes first r c n w l h e = rw (h.0, h.1, h.2, e)
+-- Tests that the code has tried with this end: the verdict of an M line that passes them, or is refused 3, 5 or 6.
+pub header_refused : {bytes : ℕ} {first : Line} {h : Header} → Begun bytes first h → (m : Bank) (c : Cause)
+    → Refused c ≡ first_refusal (header_tests h m) → judge_header bytes first m ≡ refuse c 1
+header_refused b m c e = header_judged b m (Refused c) e
 
-module _ {bytes : ℕ} {first : Line} {h : Header} (b : Begun bytes first h) (w l : List ℕ) (o : Outcome)
-    (e : o ≡ first_refusal (header_tests h (lent w l)))
-  where
-    -- The M line is refused: 3, 5 or 6.
-    pub header_refused : (c : Cause) (r : Loaded) → o ≡ Refused c → IsRefusal r c 1
-        → loading_of r w l ≡ headed (judge_header bytes first (lent w l)) (lent w l)
-    header_refused c r z q =
-        refused_headed bytes first r c 1 w l q
-        (header_judged b (lent w l) o e ∙ ap (λ (x : Outcome). tried x 1 (accept (machine_of_header h))) z)
-
-    -- It is accepted.
-    pub header_accepted : (r : Loaded) → o ≡ Done → r.outcome ≡ o → r.line ≡ 0 → record_of r.machine ≡ machine_of_header h
-        → loading_of r w l ≡ headed (judge_header bytes first (lent w l)) (lent w l)
-    header_accepted r z q n s =
-        let v = header_judged b (lent w l) o e ∙ ap (λ (x : Outcome). tried x 1 (accept (machine_of_header h))) z in
-        rw (v, q, z, n, s)
+pub header_accepted : {bytes : ℕ} {first : Line} {h : Header} → Begun bytes first h → (m : Bank)
+    → Done ≡ first_refusal (header_tests h m) → judge_header bytes first m ≡ accept (machine_of_header h)
+header_accepted b m e = header_judged b m Done e
 
 -- ---- the verdict that an answer gives
 

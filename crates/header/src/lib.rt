@@ -4,12 +4,11 @@
 
 ghost use Rattle.std.specs.Prelude.{◌≡◌, true, List, ℕ, length};
 ghost use Rattle.model.specs.Record.{lent};
-ghost use Rattle.causes.specs.declared.Outcome.TheVariants.{Refused};
-ghost use Rattle.model.specs.Load.{machine_of_header, header_in_range, judge_header, no_machine};
+ghost use Rattle.model.specs.Load.{machine_of_header, header_in_range, judge_header};
 ghost use Rattle.machine_record.specs.Struct.{record_of};
 ghost use Rattle.header.specs.Loading.{loading_of, headed};
 
-use causes::{Cause, Outcome};
+use causes::Cause;
 use labels::Bits;
 use machine_record::Machine;
 use model::Pair;
@@ -18,23 +17,12 @@ use model::judging::Header;
 use model::numbers::LONGEST_TEXT;
 use verdicts::header_verdict;
 
-// The outcome, the refusal's line or 0, and the record: beside a refusal stands one of size 0.
+// A load that is refused: why, and on which line, or 0 where that is no line's. How wide a line's number is goes by how long
+// a text may be.
 #[derive(Clone, Copy)]
-pub struct Loaded {
-    pub outcome: Outcome,
-    pub line: u32,
-    pub machine: Machine,
-}
-
-// A refusal.
-pub fn refused(cause: Cause, line: u32) -> Loaded
-    ensures { (result.outcome ≡ Refused cause) × (result.line ≡ line) × (record_of result.machine ≡ no_machine) }
-{
-    Loaded {
-        outcome: Outcome::Refused(cause),
-        line,
-        machine: Machine::blank(0, 0, 0, Pair { pc: 0, timing: 0 }, 0),
-    }
+pub struct Refusal<L> {
+    pub cause: Cause,
+    pub line: L,
 }
 
 // The machine of an M line.
@@ -53,15 +41,26 @@ fn machine_of(header: Header) -> Machine
 
 // A text of so many bytes that begins with this line, loaded with so many lent words and labels up to that line: the record
 // of an M line that passes its tests, or a refusal.
-pub fn load_header(bytes: usize, first: Line, words: usize, labels: usize) -> Loaded
+pub fn load_header(
+    bytes: usize,
+    first: Line,
+    words: usize,
+    labels: usize,
+) -> Result<Machine, Refusal<u32>>
     ensures { (w l : List ℕ) → length w ≡ words → length l ≡ labels → loading_of result w l ≡ headed (judge_header bytes first (lent w l)) (lent w l) }
 {
     let well_sized = (1 <= bytes) & (bytes <= LONGEST_TEXT);
     if !well_sized {
-        return refused(Cause::TextLength, 0);
+        return Err(Refusal {
+            cause: Cause::TextLength,
+            line: 0,
+        });
     }
     let Line::M(size, errorpc, pc, p, t, limit) = first else {
-        return refused(Cause::MalformedLine, 1);
+        return Err(Refusal {
+            cause: Cause::MalformedLine,
+            line: 1,
+        });
     };
     let header = Header {
         size,
@@ -71,13 +70,8 @@ pub fn load_header(bytes: usize, first: Line, words: usize, labels: usize) -> Lo
         t,
         limit,
     };
-    let tried = header_verdict(header, words, labels);
-    if let Outcome::Refused(cause) = tried {
-        return refused(cause, 1);
+    if let Err(cause) = header_verdict(header, words, labels) {
+        return Err(Refusal { cause, line: 1 });
     }
-    Loaded {
-        outcome: tried,
-        line: 0,
-        machine: machine_of(header),
-    }
+    Ok(machine_of(header))
 }

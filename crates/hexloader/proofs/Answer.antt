@@ -11,8 +11,7 @@ use lib.Seq.{take_at}
 use borrow.Author.Tests.{le-leb, lt-leb}
 use Rattle.causes.specs.declared.Cause.{Cause}
 use Rattle.causes.specs.declared.Cause.TheVariants.{OutOfOrder}
-use Rattle.causes.specs.declared.Outcome.TheVariants.{Done, Refused}
-use Rattle.causes.specs.Causes.{is_done}
+use Rattle.causes.specs.Causes.{Done, Refused, is_done}
 use Rattle.causes.specs.Tests.{unless}
 use Rattle.model.specs.declared.format.Read.{Read}
 use Rattle.model.specs.Record.{Bank, Machine, lent}

@@ -5,8 +5,7 @@ use mathlib.Core.Path.{◌≡◌, refl, sym, ap, ◌∙◌}
 use mathlib.Core.List.{List}
 use lib.ListN.{length, drop}
 use Rattle.causes.specs.declared.Cause.{Cause}
-use Rattle.causes.specs.declared.Outcome.TheVariants.{Done, Refused}
-use Rattle.causes.specs.Causes.{is_done}
+use Rattle.causes.specs.Causes.{Done, Refused, is_done}
 use Rattle.model.specs.declared.format.Read.{Read}
 use Rattle.model.specs.Record.{Bank, Machine}
 use Rattle.model.specs.Text.{read_line, lines}

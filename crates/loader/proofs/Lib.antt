@@ -1,4 +1,3 @@
 pub mod Reading
-pub mod Copying
 pub mod Behind
 pub mod Answer

@@ -8,8 +8,7 @@ use native.Mathlib.Omega.{arith}
 use lib.ListN.{length, take, drop, length-drop, drop_of_length-le}
 use lib.Seq.{drop-drop}
 use Rattle.causes.specs.declared.Cause.{Cause}
-use Rattle.causes.specs.declared.Outcome.{Outcome}
-use Rattle.causes.specs.declared.Outcome.TheVariants.{Done, Refused}
+use Rattle.causes.specs.Causes.{Outcome, Done, Refused}
 use Rattle.causes.specs.Tests.{first_refusal}
 use Rattle.causes.proofs.Order.{AllPass, all_pass}
 use Rattle.model.specs.declared.format.Line.{Line}
@@ -86,10 +85,10 @@ tried_here {text} {r = r} {last = last} {at = at} {n = n} {x = x} a h j =
     ∙ j.same
 
 -- The line is refused.
-pub judged_refused : {text : List ℕ} {start : ℕ} {r₀ r : Machine} {last : Last} {at n : ℕ} {x : Read} {o : Outcome} (c : Cause)
-    → At text at x → o ≡ first_refusal (line_tests r.fixed.size r.fixed.count last x.line)
-    → Judged text start r₀ r last at n → o ≡ Refused c → refuse c n ≡ judge r₀ behind_header 2 (lines (drop start text))
-judged_refused c a h j e = rw e at (tried_here a h j)
+pub judged_refused : {text : List ℕ} {start : ℕ} {r₀ r : Machine} {last : Last} {at n : ℕ} {x : Read} (c : Cause)
+    → At text at x → Refused c ≡ first_refusal (line_tests r.fixed.size r.fixed.count last x.line)
+    → Judged text start r₀ r last at n → refuse c n ≡ judge r₀ behind_header 2 (lines (drop start text))
+judged_refused c a h j = tried_here a h j
 
 -- A line that passes its tests can be taken.
 line_takes : (size count : ℕ) (last : Last) (l : Line) → AllPass (line_tests size count last l) → takes count l ≡ true

@@ -2,7 +2,7 @@
 // the words of accepted lines are kept aside, and copied to the lent memory only when the last line is accepted.
 #![tactic(auto)]
 
-ghost use Rattle.std.specs.Prelude.{◌≡◌, true, ◌++◌, ◌≤◌, length, take, drop};
+ghost use Rattle.std.specs.Prelude.{◌≡◌, true, ◌≤◌, length, drop};
 ghost use Rattle.model.specs.Numbers.{most_words, register_count, longest_text};
 ghost use Rattle.model.specs.Record.{lent};
 ghost use Rattle.model.specs.Text.{lines};
@@ -12,8 +12,7 @@ ghost use Rattle.texts.specs.Inner.Storable.{is_storable};
 ghost use Rattle.header.specs.Loading.{loading_of};
 ghost use Rattle.loader.specs.Inner.Judging.{takes, LinesJudged, load_lines};
 
-use causes::Outcome;
-use header::{Loaded, load_header, refused};
+use header::{Refusal, load_header};
 use labels::{Bits, Label};
 use machine_record::Machine;
 use model::format::Line;
@@ -83,7 +82,7 @@ fn store_word(line: Line, words: &mut [u32], labels: &mut [Bits])
     };
     let at = address as usize;
     words[at] = value as u32;
-    labels[at] = label as Bits;
+    labels[at] = (label % 16) as Bits;
 }
 
 // The lines from `start` on, behind the M line of this machine: each is judged, and its word kept where it is accepted.
@@ -94,7 +93,7 @@ fn judge_lines(
     header: Machine,
     words: &mut [u32],
     labels: &mut [Bits],
-) -> Loaded
+) -> Result<Machine, Refusal<u32>>
     requires text_len_bound { length text.now ≤ longest_text }
     requires size_in_bounds { (header.fixed.size ≤ length words.old) × (header.fixed.size ≤ length labels.old) }
     ensures { LinesJudged (record_of header) (lines (drop start text.now)) (lent words.old labels.old) result (lent words.new labels.new) }
@@ -106,9 +105,11 @@ fn judge_lines(
     while at < text.len() {
         let read = read_line(&text[at..]);
         let line = read.line;
-        let tried = line_verdict(machine.fixed.size, machine.fixed.count, last, line);
-        if let Outcome::Refused(cause) = tried {
-            return refused(cause, number);
+        if let Err(cause) = line_verdict(machine.fixed.size, machine.fixed.count, last, line) {
+            return Err(Refusal {
+                cause,
+                line: number,
+            });
         }
         last = last_of(line);
         machine = with_line(machine, line);
@@ -116,35 +117,7 @@ fn judge_lines(
         at += read.next;
         number += 1;
     }
-    Loaded {
-        outcome: Outcome::Done,
-        line: 0,
-        machine,
-    }
-}
-
-// The kept words below the size copied to memory.
-fn copy_words(size: usize, kept: &[u32], words: &mut [u32])
-    requires { (size ≤ length kept.now) × (size ≤ length words.old) }
-    ensures { words.new ≡ take size kept.now ++ drop size words.old }
-{
-    let mut i: usize = 0;
-    while i < size {
-        words[i] = kept[i];
-        i += 1;
-    }
-}
-
-// Their labels.
-fn copy_labels(size: usize, kept: &[Bits], labels: &mut [Bits])
-    requires { (size ≤ length kept.now) × (size ≤ length labels.old) }
-    ensures { labels.new ≡ take size kept.now ++ drop size labels.old }
-{
-    let mut i: usize = 0;
-    while i < size {
-        labels[i] = kept[i];
-        i += 1;
-    }
+    Ok(machine)
 }
 
 // The lines from `start` on, behind the M line of this machine, loaded: only where all of them are accepted is the lent
@@ -155,7 +128,7 @@ fn load_lines(
     header: Machine,
     words: &mut [u32],
     labels: &mut [Bits],
-) -> Loaded
+) -> Result<Machine, Refusal<u32>>
     requires text_len_bound { length text.now ≤ longest_text }
     requires size_le_most_words { header.fixed.size ≤ most_words }
     requires size_in_bounds { (header.fixed.size ≤ length words.old) × (header.fixed.size ≤ length labels.old) }
@@ -163,27 +136,18 @@ fn load_lines(
 {
     let mut kept_words = [0u32; MOST_WORDS];
     let mut kept_labels = [Label::LOWEST.0; MOST_WORDS];
-    let judged = judge_lines(text, start, header, &mut kept_words, &mut kept_labels);
-    let rest = judged.outcome;
-    if let Outcome::Done = rest {
-        let size = header.fixed.size as usize;
-        copy_words(size, &kept_words, words);
-        copy_labels(size, &kept_labels, labels);
-    }
-    judged
+    let judged = judge_lines(text, start, header, &mut kept_words, &mut kept_labels)?;
+    let size = header.fixed.size as usize;
+    words[..size].copy_from_slice(&kept_words[..size]);
+    labels[..size].copy_from_slice(&kept_labels[..size]);
+    Ok(judged)
 }
 
 // Load a text into the machine record and the lent memory. A refusal leaves words and labels as they are.
-pub fn load(text: &[u8], words: &mut [u32], labels: &mut [Bits]) -> Loaded
+pub fn load(text: &[u8], words: &mut [u32], labels: &mut [Bits]) -> Result<Machine, Refusal<u32>>
     ensures { loading_of result words.new labels.new ≡ load text.now (lent words.old labels.old) }
 {
     let read = read_line(text);
-    let first = read.line;
-    let headed = load_header(text.len(), first, words.len(), labels.len());
-    let outcome = headed.outcome;
-    let Outcome::Done = outcome else {
-        return headed;
-    };
-    let header = headed.machine;
+    let header = load_header(text.len(), read.line, words.len(), labels.len())?;
     load_lines(text, read.next, header, words, labels)
 }

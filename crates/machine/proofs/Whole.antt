@@ -6,7 +6,7 @@ use mathlib.Core.Bool.{true, false}
 use mathlib.Core.List.{List}
 use native.Mathlib.Nat.{le_refl}
 use Rattle.causes.specs.declared.Cause.TheVariants.{ShortMemory, IllFormed}
-use Rattle.causes.specs.declared.Outcome.TheVariants.{Done, Refused}
+use Rattle.std.specs.Prelude.{Ok, Err}
 use Rattle.model.specs.declared.Control.{Control}
 use Rattle.model.specs.declared.Request.{Request}
 use Rattle.model.specs.declared.Request.TheVariants.{Step, Run, RunTo}
@@ -55,20 +55,20 @@ carried_of {q} {m} {pace} {words} {marks} {control} {values} {labels} {words'} w
 module _ (q : Request) (m : Machine) (words labels : List ℕ) where
   -- 7 where the record is not well-formed.
   pub answered_ill : well_formed (record_of m) ≡ false
-      → answered (record { outcome = Refused IllFormed; machine = m }) words labels ≡ answer_of q (record_of m) (lent words labels)
+      → answered (record { outcome = Err IllFormed; machine = m }) words labels ≡ answer_of q (record_of m) (lent words labels)
   unfolding answer
   answered_ill w = rw w
 
   module _ (w : well_formed (record_of m) ≡ true) where
     -- Then 6 where lent words or labels are shorter than the size.
     pub answered_short : lent_whole m.fixed.size (lent words labels) ≡ false
-        → answered (record { outcome = Refused ShortMemory; machine = m }) words labels ≡ answer_of q (record_of m) (lent words labels)
+        → answered (record { outcome = Err ShortMemory; machine = m }) words labels ≡ answer_of q (record_of m) (lent words labels)
     unfolding answer
     answered_short l = rw (w, l)
 
     -- Else what was asked for.
     pub answered_done : lent_whole m.fixed.size (lent words labels) ≡ true → {r : Machine} {words' labels' : List ℕ}
         → Carried q m words labels r words' labels'
-        → answered (record { outcome = Done; machine = r }) words' labels' ≡ answer_of q (record_of m) (lent words labels)
+        → answered (record { outcome = Ok tt; machine = r }) words' labels' ≡ answer_of q (record_of m) (lent words labels)
     unfolding answer
     answered_done l h = rw (w, l, h.machine, h.memory)

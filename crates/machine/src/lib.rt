@@ -2,7 +2,7 @@
 // short, is refused; then the record comes back and memory is left.
 #![tactic(auto)]
 
-ghost use Rattle.std.specs.Prelude.{◌≡◌, true};
+ghost use Rattle.std.specs.Prelude.{◌≡◌, true, Err};
 ghost use Rattle.model.specs.Record.{lent};
 ghost use Rattle.model.specs.WellFormed.{well_formed, lent_whole};
 ghost use Rattle.model.specs.Answer.{answer_of, step_answer, run_answer, run_to_answer};
@@ -10,17 +10,17 @@ ghost use Rattle.machine_record.specs.Struct.{record_of};
 ghost use Rattle.machine.specs.Answered.{answered};
 ghost use Rattle.machine.specs.Inner.Carried.{pace_of, Carried};
 
-use causes::{Cause, Outcome};
+use causes::Cause;
 use engine::{Task, advance};
 use labels::Bits;
 use machine_record::{Machine, is_lent_whole};
 use model::{Registers, Request};
 use pacing::Pace;
 
-// What a call answers.
+// What a call answers: how it ended, and the record, which comes back beside a refusal too.
 #[derive(Clone, Copy)]
 pub struct Answer {
-    pub outcome: Outcome,
+    pub outcome: Result<(), Cause>,
     pub machine: Machine,
 }
 
@@ -60,9 +60,9 @@ fn carried(machine: Machine, request: Request, words: &mut [u32], marks: &mut [B
 
 // A refusal gives the record back.
 fn refused(machine: Machine, cause: Cause) -> Answer
-    ensures { result ≡ record { outcome = Outcome.Refused cause; machine = machine } }
+    ensures { result ≡ record { outcome = Err cause; machine = machine } }
 {
-    let outcome = Outcome::Refused(cause);
+    let outcome = Err(cause);
     Answer { outcome, machine }
 }
 
@@ -78,7 +78,7 @@ pub fn answer_of(
     if machine.is_well_formed() {
         let fixed = machine.fixed;
         if is_lent_whole(fixed.size, words, marks) {
-            let outcome = Outcome::Done;
+            let outcome = Ok(());
             let machine = carried(machine, request, words, marks);
             return Answer { outcome, machine };
         }

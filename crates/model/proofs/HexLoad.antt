@@ -15,7 +15,7 @@ use borrow.Author.Tests.{ltb-true, ltb-false}
 use Rattle.labels.specs.Label.{label_count, lowest}
 use Rattle.labels.proofs.Constants.{lowest_number}
 use Rattle.causes.specs.declared.Cause.TheVariants.{ShortMemory, MalformedRecord, MisplacedByte}
-use Rattle.causes.specs.declared.Outcome.TheVariants.{Done, Refused}
+use Rattle.causes.specs.Causes.{Done, Refused}
 use Rattle.causes.proofs.Numbers.{done_or_refused}
 use Rattle.model.specs.Numbers.{value_count}
 use Rattle.model.specs.Record.{Bank, Machine}

@@ -14,9 +14,7 @@ use Rattle.labels.specs.Label.{valid_pair, label_count, lowest}
 use Rattle.labels.proofs.Constants.{lowest_number}
 use Rattle.causes.specs.declared.Cause.{Cause}
 use Rattle.causes.specs.declared.Cause.TheVariants.{TextLength, MalformedLine, OutOfRange, InvalidPair, ShortMemory}
-use Rattle.causes.specs.declared.Outcome.{Outcome}
-use Rattle.causes.specs.declared.Outcome.TheVariants.{Done, Refused}
-use Rattle.causes.specs.Causes.{cause_number}
+use Rattle.causes.specs.Causes.{Outcome, Done, Refused, cause_number}
 use Rattle.causes.specs.Tests.{unless, first_refusal}
 use Rattle.causes.proofs.Numbers.{done_or_refused}
 use Rattle.causes.proofs.Order.{AllPass, all_pass, AllCauses, some_cause}

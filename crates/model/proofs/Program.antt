@@ -5,7 +5,7 @@ use Prim.Native.Nat.{ℕ, ◌<◌}
 use mathlib.Core.Path.{◌≡◌}
 use mathlib.Core.Bool.{true}
 use mathlib.Core.List.{List}
-use Rattle.causes.specs.declared.Outcome.TheVariants.{Done}
+use Rattle.causes.specs.Causes.{Done}
 use Rattle.labels.specs.Label.{label_count, lowest}
 use Rattle.model.specs.Numbers.{zero_register}
 use Rattle.model.specs.Record.{Bank, State, register, value_at, label_at, machine_of}

@@ -6,7 +6,7 @@ use mathlib.Core.Bool.{true, false}
 use mathlib.Core.List.{List, ◌++◌}
 use lib.Dec.{leb}
 use Rattle.causes.specs.declared.Cause.TheVariants.{TickAboveLimit}
-use Rattle.causes.specs.declared.Outcome.TheVariants.{Done, Refused}
+use Rattle.causes.specs.Causes.{Done, Refused}
 use Rattle.model.specs.Numbers.{letter_r, letter_w, register_count, most_words}
 use Rattle.model.specs.Record.{State, register, word}
 use Rattle.model.specs.Step.{run_to}

@@ -4,8 +4,7 @@
 use Rattle.std.specs.Prelude.{ℕ}
 use Rattle.causes.specs.declared.Cause.{Cause}
 use Rattle.causes.specs.declared.Cause.TheVariants.{ShortMemory, IllFormed}
-use Rattle.causes.specs.declared.Outcome.{Outcome}
-use Rattle.causes.specs.declared.Outcome.TheVariants.{Done, Refused}
+use Rattle.causes.specs.Causes.{Outcome, Done, Refused}
 use Rattle.causes.specs.Tests.{unless}
 use Rattle.model.specs.declared.Request.{Request}
 use Rattle.model.specs.declared.Request.TheVariants.{Step, Run, RunTo}

@@ -5,7 +5,7 @@
 use Rattle.std.specs.Prelude.{ℕ, zero, suc, ◌+◌, ◌*◌, ◌%◌, Bool, ◌||◌, cond, List, [], ◌∷◌, ◌++◌, leb, ltb, eqb, length, drop, get_or, set, replicate}
 use Rattle.labels.specs.Label.{lowest}
 use Rattle.causes.specs.declared.Cause.TheVariants.{OutOfOrder, MalformedRecord, MisplacedByte}
-use Rattle.causes.specs.declared.Outcome.TheVariants.{Done}
+use Rattle.causes.specs.Causes.{Done}
 use Rattle.causes.specs.Tests.{unless}
 use Rattle.model.specs.Numbers.{no_byte, word_bytes}
 use Rattle.model.specs.Record.{Bank, Machine}

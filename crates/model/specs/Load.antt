@@ -6,8 +6,7 @@ use Rattle.std.specs.Prelude.{ℕ, ◌+◌, Bool, false, not, ◌&&◌, ◌||◌
 use Rattle.labels.specs.Label.{valid_pair, lowest}
 use Rattle.causes.specs.declared.Cause.{Cause}
 use Rattle.causes.specs.declared.Cause.TheVariants.{TextLength, MalformedLine, OutOfRange, OutOfOrder, InvalidPair, ShortMemory, ZeroRegister, GatePair}
-use Rattle.causes.specs.declared.Outcome.{Outcome}
-use Rattle.causes.specs.declared.Outcome.TheVariants.{Done, Refused}
+use Rattle.causes.specs.Causes.{Outcome, Done, Refused}
 use Rattle.causes.specs.Tests.{unless, Test, ◌or_else◌, first_refusal}
 use Rattle.model.specs.Numbers.{most_gates, register_count, value_count, longest_text}
 use Rattle.model.specs.declared.Call.TheVariants.{Empty}

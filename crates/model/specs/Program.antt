@@ -2,8 +2,7 @@
 -- Assumes nothing.
 use Rattle.std.specs.Prelude.{ℕ, ◌<◌, ◌≡◌, cond, List, [], ◌∷◌, ◌++◌, leb, length, drop, replicate}
 use Rattle.labels.specs.Label.{label_count}
-use Rattle.causes.specs.declared.Outcome.TheVariants.{Done}
-use Rattle.causes.specs.Causes.{number_of, is_done}
+use Rattle.causes.specs.Causes.{Done, number_of, is_done}
 use Rattle.model.specs.Numbers.{most_words, letter_x}
 use Rattle.model.specs.Record.{Bank, State, state_of}
 use Rattle.model.specs.Step.{run}

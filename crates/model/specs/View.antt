@@ -2,9 +2,7 @@
 -- Assumes nothing.
 use Rattle.std.specs.Prelude.{ℕ, List, [], ◌∷◌, ◌++◌, leb, length, drop}
 use Rattle.causes.specs.declared.Cause.TheVariants.{TickAboveLimit}
-use Rattle.causes.specs.declared.Outcome.{Outcome}
-use Rattle.causes.specs.declared.Outcome.TheVariants.{Refused}
-use Rattle.causes.specs.Causes.{number_of, is_done}
+use Rattle.causes.specs.Causes.{Outcome, Refused, number_of, is_done}
 use Rattle.causes.specs.Tests.{unless}
 use Rattle.model.specs.Numbers.{letter_x}
 use Rattle.model.specs.Record.{Bank, State, machine_of}

@@ -7,7 +7,7 @@ use mathlib.Core.List.{List}
 use lib.ListN.{length}
 use borrow.Author.Tests.{le-leb, lt-leb}
 use Rattle.causes.specs.declared.Cause.TheVariants.{ShortMemory, IllFormed, ShortOutput}
-use Rattle.causes.specs.declared.Outcome.TheVariants.{Done}
+use Rattle.causes.specs.Causes.{Done}
 use Rattle.model.specs.Record.{Bank, Machine, state_of}
 use Rattle.model.specs.WellFormed.{well_formed, lent_whole}
 use Rattle.model.specs.Listing.{listing_for, Printing, not_printed, listed, print_for}

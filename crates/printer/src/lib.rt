@@ -10,10 +10,10 @@ ghost use Rattle.model.specs.Seen.{within};
 ghost use Rattle.model.specs.Listing.{line, end_fields, call_fields, call_line, head_lines, head_for, is_listed, entry_for, entry_lines, listing_for, listed, print_for, print as Listing·print};
 ghost use Rattle.texts.specs.Inner.Sight.{control_seen, entry_seen, bank_seen};
 ghost use Rattle.machine_record.specs.Struct.{record_of};
-ghost use Rattle.printer.specs.Printing.{printing_of};
+ghost use Rattle.printer.specs.Printing.{printing_of, printing_with};
 ghost use Rattle.printer.specs.Inner.Placing.{state_with, Entries, longest, longest_entry, Placed};
 
-use causes::{Cause, Outcome};
+use causes::Cause;
 use labels::{Bits, Label};
 use machine_record::{Machine, is_blank, is_lent_whole};
 use model::{Call, Control, Pair};
@@ -35,11 +35,10 @@ const GATE: u64 = 1;
 
 const UPCALL: u64 = 2;
 
-// The outcome, how many bytes were written, and the record as it was given.
+// How many bytes were written, or why none; and the record as it was given.
 #[derive(Clone, Copy)]
 pub struct Printed {
-    pub outcome: Outcome,
-    pub bytes: usize,
+    pub written: Result<usize, Cause>,
     pub machine: Machine,
 }
 
@@ -49,17 +48,6 @@ struct Entry {
     number: usize,
     label: Bits,
     value: u32,
-}
-
-// A refusal gives the record back.
-fn refused(machine: Machine, cause: Cause) -> Printed
-    ensures { result ≡ record { outcome = Outcome.Refused cause; bytes = 0; machine = machine } }
-{
-    Printed {
-        outcome: Outcome::Refused(cause),
-        bytes: 0,
-        machine,
-    }
 }
 
 // Prints the machine with the memory that is lent to it, words and their labels, the marks: everything, for the label that
@@ -80,39 +68,35 @@ pub fn print_for(
 ) -> Printed
     ensures { printing_of result out.new ≡ print_for viewer (record_of machine) (lent words.now marks.now) out.old }
 {
-    let fixed = machine.fixed;
-    let well_formed = machine.is_well_formed();
-    let whole = is_lent_whole(fixed.size, words, marks);
-    if !well_formed {
-        return refused(machine, Cause::IllFormed);
-    }
-    if !whole {
-        return refused(machine, Cause::ShortMemory);
-    }
-    print_whole(machine, viewer, words, marks, out)
+    let written = write_whole(machine, viewer, words, marks, out);
+    Printed { written, machine }
 }
 
-// Prints a machine whose memory is whole, where the output is long enough.
-fn print_whole(
+// Writes the listing of a well-formed machine whose memory is whole, where the output is long enough, and tells its length.
+fn write_whole(
     machine: Machine,
     viewer: Bits,
     words: &[u32],
     marks: &[Bits],
     out: &mut [u8],
-) -> Printed
-    requires { Entries words.now marks.now machine.fixed.size }
-    ensures { printing_of result out.new ≡ listed (record_of machine) (listing_for viewer (state_with machine words.now marks.now)) out.old }
+) -> Result<usize, Cause>
+    ensures { printing_with result (record_of machine) out.new ≡ print_for viewer (record_of machine) (lent words.now marks.now) out.old }
 {
+    let fixed = machine.fixed;
+    let well_formed = machine.is_well_formed();
+    let whole = is_lent_whole(fixed.size, words, marks);
+    if !well_formed {
+        return Err(Cause::IllFormed);
+    }
+    if !whole {
+        return Err(Cause::ShortMemory);
+    }
     let count = listing_length(machine, viewer, words, marks);
     if out.len() < count {
-        return refused(machine, Cause::ShortOutput);
+        return Err(Cause::ShortOutput);
     }
     write_listing(out, machine, viewer, words, marks);
-    Printed {
-        outcome: Outcome::Done,
-        bytes: count,
-        machine,
-    }
+    Ok(count)
 }
 
 // How many bytes the listing takes: where it would end in an output without a byte.

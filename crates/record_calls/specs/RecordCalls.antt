@@ -5,9 +5,7 @@
 -- Assumes nothing.
 use Rattle.std.specs.Prelude.{ℕ, Bool, cond, List, ltb, length}
 use Rattle.causes.specs.declared.Cause.TheVariants.{IllFormed}
-use Rattle.causes.specs.declared.Outcome.{Outcome}
-use Rattle.causes.specs.declared.Outcome.TheVariants.{Done, Refused}
-use Rattle.causes.specs.Causes.{number_of}
+use Rattle.causes.specs.Causes.{Outcome, Done, Refused, number_of}
 use Rattle.model.specs.Record.{Bank, Machine, lent}
 use Rattle.model.specs.Answer.{Answer}
 use Rattle.encoder.specs.Places.{span}

@@ -11,8 +11,7 @@ use lib.ListN.{length, take, drop, length-append, length-replicate}
 use lib.Seq.{take-append_seam}
 use borrow.Author.Tests.{le-leb}
 use Rattle.causes.specs.declared.Cause.TheVariants.{ShortMemory, TickAboveLimit}
-use Rattle.causes.specs.declared.Outcome.TheVariants.{Refused}
-use Rattle.causes.specs.Causes.{number_of, is_done}
+use Rattle.causes.specs.Causes.{Refused, number_of, is_done}
 use Rattle.causes.proofs.Numbers.{is_done_lem}
 use Rattle.labels.specs.Label.{highest}
 use Rattle.model.specs.Record.{Bank, State}

@@ -13,8 +13,7 @@ use lib.ListN.{length, drop, get_or, replicate, length-set, length-append, lengt
 use borrow.Author.Tests.{ltb-true}
 use Rattle.labels.specs.Label.{label_count, lowest, highest}
 use Rattle.causes.specs.declared.Cause.{Cause}
-use Rattle.causes.specs.declared.Outcome.TheVariants.{Done}
-use Rattle.causes.specs.Causes.{is_done}
+use Rattle.causes.specs.Causes.{Done, is_done}
 use Rattle.causes.proofs.Numbers.{is_done_lem}
 use Rattle.model.specs.declared.Control.{Control}
 use Rattle.model.specs.Record.{Bank, Machine, State, Location, register, word, value_at, label_at, machine_of, state_of}

@@ -4,7 +4,7 @@ use Prim.Native.Nat.{ℕ, ◌+◌}
 use mathlib.Core.Path.{◌≡◌, refl, ap, ◌∙◌}
 use mathlib.Core.Bool.{true}
 use mathlib.Core.List.{List, [], ◌∷◌}
-use Rattle.causes.specs.declared.Outcome.TheVariants.{Done}
+use Rattle.causes.specs.Causes.{Done}
 use Rattle.causes.specs.Tests.{first_refusal}
 use Rattle.causes.proofs.Order.{AllPass, all_pass}
 use Rattle.model.specs.declared.format.Line.{Line}

@@ -2,12 +2,13 @@
 #![tactic(auto)]
 
 ghost use Rattle.std.specs.Prelude.{◌≡◌, length};
+ghost use Rattle.causes.specs.Causes.{outcome_of};
 ghost use Rattle.causes.specs.Tests.{first_refusal};
 ghost use Rattle.model.specs.Record.{Bank};
 ghost use Rattle.model.specs.Load.{header_in_range, gate_in_range, entry_in_range, rank, in_order, rising, header_tests, line_tests, last_of};
 ghost use Rattle.verdicts.specs.Inner.Verdicts.{gate_tests, entry_tests, register_tests};
 
-use causes::{Cause, Outcome};
+use causes::Cause;
 use labels::{Bits, Label};
 use model::format::Line;
 use model::judging::{Header, Kind, Last};
@@ -92,79 +93,83 @@ fn is_rising(last: Last, kind: Kind, k: u64) -> bool
 }
 
 // The verdict on an M line: its ranges, its pair, the lent memory.
-pub fn header_verdict(header: Header, words: usize, labels: usize) -> Outcome
-    ensures { (m : Bank) → length m.values ≡ words → length m.labels ≡ labels → result ≡ first_refusal (header_tests header m) }
+pub fn header_verdict(header: Header, words: usize, labels: usize) -> Result<(), Cause>
+    ensures { (m : Bank) → length m.values ≡ words → length m.labels ≡ labels → outcome_of result ≡ first_refusal (header_tests header m) }
 {
     let lent_whole = (header.size <= words as u64) & (header.size <= labels as u64);
     if !header_in_range(header) {
-        return Outcome::Refused(Cause::OutOfRange);
+        return Err(Cause::OutOfRange);
     }
     if !Label(header.p as Bits).is_valid_pair(Label(header.t as Bits)) {
-        return Outcome::Refused(Cause::InvalidPair);
+        return Err(Cause::InvalidPair);
     }
     if !lent_whole {
-        return Outcome::Refused(Cause::ShortMemory);
+        return Err(Cause::ShortMemory);
     }
-    Outcome::Done
+    Ok(())
 }
 
 // The verdict on a G line behind so many gates: its kind, its ranges, its pair.
-fn gate_verdict(count: u32, last: Last, pc: u64, p: u64, t: u64) -> Outcome
-    ensures { result ≡ first_refusal (gate_tests count last pc p t) }
+fn gate_verdict(count: u32, last: Last, pc: u64, p: u64, t: u64) -> Result<(), Cause>
+    ensures { outcome_of result ≡ first_refusal (gate_tests count last pc p t) }
 {
     if !is_in_order(last, Kind::GateLine) {
-        return Outcome::Refused(Cause::OutOfOrder);
+        return Err(Cause::OutOfOrder);
     }
     if !gate_in_range(count, pc, p, t) {
-        return Outcome::Refused(Cause::OutOfRange);
+        return Err(Cause::OutOfRange);
     }
     if !Label(p as Bits).is_valid_pair(Label(t as Bits)) {
-        return Outcome::Refused(Cause::GatePair);
+        return Err(Cause::GatePair);
     }
-    Outcome::Done
+    Ok(())
 }
 
 // The verdict on an R or W line, whose number is to be below the bound: its kind, its ranges, its number.
-fn entry_verdict(kind: Kind, bound: u32, last: Last, k: u64, label: u64, value: u64) -> Outcome
-    ensures { result ≡ first_refusal (entry_tests kind bound last k label value) }
+fn entry_verdict(
+    kind: Kind,
+    bound: u32,
+    last: Last,
+    k: u64,
+    label: u64,
+    value: u64,
+) -> Result<(), Cause>
+    ensures { outcome_of result ≡ first_refusal (entry_tests kind bound last k label value) }
 {
     if !is_in_order(last, kind) {
-        return Outcome::Refused(Cause::OutOfOrder);
+        return Err(Cause::OutOfOrder);
     }
     if !entry_in_range(bound, k, label, value) {
-        return Outcome::Refused(Cause::OutOfRange);
+        return Err(Cause::OutOfRange);
     }
     if !is_rising(last, kind, k) {
-        return Outcome::Refused(Cause::OutOfOrder);
+        return Err(Cause::OutOfOrder);
     }
-    Outcome::Done
+    Ok(())
 }
 
 // The verdict on an R line: that of its entry, and then whether it is for register 0.
-fn register_verdict(last: Last, k: u64, label: u64, value: u64) -> Outcome
-    ensures { result ≡ first_refusal (register_tests last k label value) }
+fn register_verdict(last: Last, k: u64, label: u64, value: u64) -> Result<(), Cause>
+    ensures { outcome_of result ≡ first_refusal (register_tests last k label value) }
 {
-    let entry = entry_verdict(Kind::RegisterLine, REGISTER_COUNT, last, k, label, value);
-    let Outcome::Done = entry else {
-        return entry;
-    };
+    entry_verdict(Kind::RegisterLine, REGISTER_COUNT, last, k, label, value)?;
     if ZERO_REGISTER < k {
-        Outcome::Done
+        Ok(())
     } else {
-        Outcome::Refused(Cause::ZeroRegister)
+        Err(Cause::ZeroRegister)
     }
 }
 
 // The verdict on a line behind the first, for a machine of this size with so many gates.
-pub fn line_verdict(size: u32, count: u32, last: Last, line: Line) -> Outcome
-    ensures { result ≡ first_refusal (line_tests size count last line) }
+pub fn line_verdict(size: u32, count: u32, last: Last, line: Line) -> Result<(), Cause>
+    ensures { outcome_of result ≡ first_refusal (line_tests size count last line) }
 {
     match line {
-        Line::M(_, _, _, _, _, _) => Outcome::Refused(Cause::OutOfOrder),
+        Line::M(_, _, _, _, _, _) => Err(Cause::OutOfOrder),
         Line::G(pc, p, t) => gate_verdict(count, last, pc, p, t),
         Line::R(k, label, value) => register_verdict(last, k, label, value),
         Line::W(k, label, value) => entry_verdict(Kind::WordLine, size, last, k, label, value),
-        Line::Malformed => Outcome::Refused(Cause::MalformedLine),
+        Line::Malformed => Err(Cause::MalformedLine),
     }
 }
 

@@ -9,9 +9,7 @@ use lib.Dec.{leb}
 use lib.ListN.{length, take, drop}
 use borrow.Author.Tests.{le-leb, lt-leb}
 use Rattle.causes.specs.declared.Cause.TheVariants.{TickAboveLimit}
-use Rattle.causes.specs.declared.Outcome.{Outcome}
-use Rattle.causes.specs.declared.Outcome.TheVariants.{Done, Refused}
-use Rattle.causes.specs.Causes.{number_of, is_done}
+use Rattle.causes.specs.Causes.{Outcome, Done, Refused, number_of, is_done}
 use Rattle.model.specs.Numbers.{letter_x}
 use Rattle.model.specs.Record.{Bank, State}
 use Rattle.model.specs.Step.{run_to}

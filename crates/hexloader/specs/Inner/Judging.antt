@@ -4,7 +4,7 @@
 use Rattle.std.specs.Prelude.{ℕ, ◌+◌, ◌≡◌, Bool, true, false, cond, List}
 use Rattle.causes.specs.declared.Cause.{Cause}
 use Rattle.causes.specs.declared.Cause.TheVariants.{MalformedRecord, MisplacedByte}
-use Rattle.causes.specs.declared.Outcome.TheVariants.{Done, Refused}
+use Rattle.causes.specs.Causes.{Done, Refused}
 use Rattle.model.specs.Record.{Bank, Machine}
 use Rattle.model.specs.Hex.{records}
 use Rattle.model.specs.Load.{Verdict, refuse, accept, tried, Loading, no_machine}

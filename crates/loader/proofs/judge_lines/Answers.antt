@@ -31,18 +31,17 @@ line_at : (c : After-read_line-read)
     → At (text_of (goal.at.After-read_line-read c).At-loop-at) c.loop-at.at c.read_line-read.result
 line_at c = read_at _ _ _ c.loop-at-test.true c.read_line-read.ensures
 
-pub shape_of-words-in-Refused : goal.shape_of-words-in-Refused
-shape_of-words-in-Refused c = c.loop-at.invariant.1.words
+pub shape_of-words-in-Err : goal.shape_of-words-in-Err
+shape_of-words-in-Err c = c.loop-at.invariant.1.words
 
-pub shape_of-labels-in-Refused : goal.shape_of-labels-in-Refused
-shape_of-labels-in-Refused c = c.loop-at.invariant.1.labels
+pub shape_of-labels-in-Err : goal.shape_of-labels-in-Err
+shape_of-labels-in-Err c = c.loop-at.invariant.1.labels
 
-pub returns-in-Refused : goal.returns-in-Refused
-returns-in-Refused c =
+pub returns-in-Err : goal.returns-in-Err
+returns-in-Err c =
     let loop = c.loop-at in
-    refused_lines _ _ _ _ _ _ (lent loop.words loop.labels) c.refused.ensures
-    (judged_refused _ (line_at (goal.at.returns-in-Refused c).After-read_line-read) c.line_verdict-tried.ensures loop.invariant.0
-    c.in-Refused.is)
+    refused_lines _ _ _ _ _ (lent loop.words loop.labels)
+    (judged_refused _ (line_at (goal.at.returns-in-Err c).After-read_line-read) c.in-Err.ensures loop.invariant.0)
 
 -- The head of the loop, where a line was accepted.
 abbrev head : In_default → At-loop-at
@@ -53,7 +52,7 @@ accepted : (c : In_default)
     → Accepted (text_of (head c)) (head c).loop-at.at (record_of (head c).loop-at.machine) (head c).loop-at.last
     c.read_line-read.result
 accepted c =
-    record { here = line_at (goal.at.In_default c).After-read_line-read; passes = rw c.in_default.is at c.line_verdict-tried.ensures }
+    record { here = line_at (goal.at.In_default c).After-read_line-read; passes = c.in_default.ensures }
 
 pub with_line-machine-requires : goal.with_line-machine-requires
 with_line-machine-requires c = accepted_taken (accepted (goal.at.with_line-machine-requires c).In_default)
@@ -120,5 +119,5 @@ returns c =
       answer =
           λ w l. ap (λ (v : Verdict Machine). headed v (lent w l))
           (judged_end _ _ _ (record_of end.machine) _ _ _ end.invariant.0 c.loop-at-test.false);
-      kept = λ e. kept_end _ _ _ _ _ _ _ end.invariant.1 c.loop-at-test.false;
+      kept = kept_end _ _ _ _ _ _ _ end.invariant.1 c.loop-at-test.false;
     }

@@ -14,31 +14,21 @@ well_formed_lem c = sym c.is_well_formed.ensures ∙ c.if-is_well_formed.true
 
 pub carried-machine-requires : goal.carried-machine-requires
 carried-machine-requires c =
-    let lent = c in
-    let tested = lent in
-    (well_formed_lem (goal.at.carried-machine-requires c).Then-is_well_formed, sym tested.is_lent_whole.ensures ∙ lent.if-is_lent_whole.true)
+    (well_formed_lem (goal.at.carried-machine-requires c).Then-is_well_formed, sym c.is_lent_whole.ensures ∙ c.if-is_lent_whole.true)
 
 pub returns-then-is_lent_whole : goal.returns-then-is_lent_whole
 returns-then-is_lent_whole c =
-    let done = c in
-    let lent = done in
-    let tested = lent in
-    answered_done _ _ _ _ (well_formed_lem (goal.at.returns-then-is_lent_whole c).Then-is_well_formed) (sym tested.is_lent_whole.ensures ∙ lent.if-is_lent_whole.true)
-    done.carried-machine.ensures
+    answered_done _ _ _ _ (well_formed_lem (goal.at.returns-then-is_lent_whole c).Then-is_well_formed) (sym c.is_lent_whole.ensures ∙ c.if-is_lent_whole.true)
+    c.carried-machine.ensures
 
 pub returns-then-is_well_formed : goal.returns-then-is_well_formed
 returns-then-is_well_formed c =
-    let tested = c in
-    let fit = tested in
-    let start = fit in
     rw c.refused.ensures
-    (answered_short start.args.request start.args.machine start.args.words.now start.args.marks.now (well_formed_lem (goal.at.returns-then-is_well_formed c).Then-is_well_formed)
-    (sym tested.is_lent_whole.ensures ∙ c.if-is_lent_whole.false))
+    (answered_short c.args.request c.args.machine c.args.words.now c.args.marks.now (well_formed_lem (goal.at.returns-then-is_well_formed c).Then-is_well_formed)
+    (sym c.is_lent_whole.ensures ∙ c.if-is_lent_whole.false))
 
 pub returns : goal.returns
 returns c =
-    let tested = c in
-    let start = tested in
     rw c.refused-2.ensures
-    (answered_ill start.args.request start.args.machine start.args.words.now start.args.marks.now
-    (sym tested.is_well_formed.ensures ∙ c.if-is_well_formed.false))
+    (answered_ill c.args.request c.args.machine c.args.words.now c.args.marks.now
+    (sym c.is_well_formed.ensures ∙ c.if-is_well_formed.false))

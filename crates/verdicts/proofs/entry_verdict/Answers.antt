@@ -11,30 +11,25 @@ returns-then-not-is_in_order c = rw (fails _ _ c.is_in_order.ensures c.if-not-is
 pub returns-then-not-entry_in_range : goal.returns-then-not-entry_in_range
 unfolding first_refusal
 returns-then-not-entry_in_range c =
-    let kind = c in
     rw (
-      passes _ _ kind.is_in_order.ensures kind.if-not-is_in_order.false,
+      passes _ _ c.is_in_order.ensures c.if-not-is_in_order.false,
       fails _ _ c.entry_in_range.ensures c.if-not-entry_in_range.true,
     )
 
 pub returns-then-not-is_rising : goal.returns-then-not-is_rising
 unfolding first_refusal
 returns-then-not-is_rising c =
-    let range = c in
-    let kind = range in
     rw (
-      passes _ _ kind.is_in_order.ensures kind.if-not-is_in_order.false,
-      passes _ _ range.entry_in_range.ensures range.if-not-entry_in_range.false,
+      passes _ _ c.is_in_order.ensures c.if-not-is_in_order.false,
+      passes _ _ c.entry_in_range.ensures c.if-not-entry_in_range.false,
       fails _ _ c.is_rising.ensures c.if-not-is_rising.true,
     )
 
 pub returns : goal.returns
 unfolding first_refusal
 returns c =
-    let range = c in
-    let kind = range in
     rw (
-      passes _ _ kind.is_in_order.ensures kind.if-not-is_in_order.false,
-      passes _ _ range.entry_in_range.ensures range.if-not-entry_in_range.false,
+      passes _ _ c.is_in_order.ensures c.if-not-is_in_order.false,
+      passes _ _ c.entry_in_range.ensures c.if-not-entry_in_range.false,
       passes _ _ c.is_rising.ensures c.if-not-is_rising.false,
     )

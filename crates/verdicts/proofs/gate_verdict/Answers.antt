@@ -37,13 +37,11 @@ overflow_cast-t c = omega (arith, gate_range _ _ _ _ (range_passes c))
 pub returns-then-not-is_valid_pair : goal.returns-then-not-is_valid_pair
 unfolding first_refusal
 returns-then-not-is_valid_pair c =
-    let range = c in
     rw
     (kind_passes (goal.at.returns-then-not-is_valid_pair c).Else-not-is_in_order, range_passes (goal.at.returns-then-not-is_valid_pair c).Else-not-gate_in_range, fails _ _ c.is_valid_pair.ensures c.if-not-is_valid_pair.true)
 
 pub returns : goal.returns
 unfolding first_refusal
 returns c =
-    let range = c in
     rw
     (kind_passes (goal.at.returns c).Else-not-is_in_order, range_passes (goal.at.returns c).Else-not-gate_in_range, passes _ _ c.is_valid_pair.ensures c.if-not-is_valid_pair.false)

@@ -39,9 +39,6 @@ returns-then-not-is_valid_pair c = λ m w l.
 pub returns-then-not-lent_whole : goal.returns-then-not-lent_whole
 unfolding header_tests first_refusal lent_whole
 returns-then-not-lent_whole c = λ m w l.
-    let pair = c in
-    let range = pair in
-    let args = range.args in
     rw (
       range_passes (goal.at.returns-then-not-lent_whole c).Else-not-header_in_range,
       pair_passes (goal.at.returns-then-not-lent_whole c).Else-not-is_valid_pair,
@@ -53,9 +50,6 @@ returns-then-not-lent_whole c = λ m w l.
 pub returns : goal.returns
 unfolding header_tests first_refusal lent_whole
 returns c = λ m w l.
-    let pair = c in
-    let range = pair in
-    let args = range.args in
     rw (
       range_passes (goal.at.returns c).Else-not-header_in_range,
       pair_passes (goal.at.returns c).Else-not-is_valid_pair,
