@@ -6,11 +6,11 @@ ghost use Rattle.std.specs.Prelude.{◌≤◌, ◌≡◌, length, take};
 ghost use Rattle.model.specs.Record.{lent};
 ghost use Rattle.model.specs.Program.{fire, fire_whole, fire_alone};
 ghost use Rattle.writer.specs.Writing.{answer};
-ghost use Rattle.machine_record.specs.Struct.{record_of};
+ghost use Rattle.header.specs.Loading.{loading_of};
 ghost use Rattle.fire.specs.Fired.{fired, replied};
 ghost use Rattle.fire.specs.InTurn.{refusing, in_turn};
 
-use causes::Outcome;
+use header::Refusal;
 use labels::Bits;
 use loader::load;
 use machine::run;
@@ -33,31 +33,29 @@ pub const OUTPUT: usize = 65536;
 pub fn fire(text: &[u8], words: &mut [u32], labels: &mut [Bits], out: &mut [u8]) -> usize
     ensures { fired result out.new words.new labels.new ≡ fire text.now (lent words.old labels.old) out.old }
 {
-    let loaded = load(text, words, labels);
-    let outcome = loaded.outcome;
-    let machine = loaded.machine;
-    fire_loaded(outcome, loaded.line as u64, machine, words, labels, out)
+    let loaded = load(text, words, labels).map_err(Refusal::from);
+    fire_loaded(loaded, words, labels, out)
 }
 
 // Fires what a load has given: the machine is run and printed, or the line of a refusal is written. Gives how many bytes of
 // the output are written.
 pub fn fire_loaded(
-    outcome: Outcome,
-    line: u64,
-    machine: Machine,
+    loaded: Result<Machine, Refusal<u64>>,
     words: &mut [u32],
     labels: &mut [Bits],
     out: &mut [u8],
 ) -> usize
-    ensures { fired result out.new words.new labels.new ≡ in_turn (record { outcome = outcome; line = line; machine = record_of machine; memory = lent words.old labels.old }) out.old }
+    ensures { fired result out.new words.new labels.new ≡ in_turn (loading_of loaded words.old labels.old) out.old }
 {
-    let Outcome::Done = outcome else {
-        return write_refusal(out, outcome.number() as u64, line);
-    };
-    let answer = run(machine, words, labels);
-    let last = answer.machine;
-    let printed = print(last, words, labels, out);
-    printed.bytes
+    match loaded {
+        Ok(machine) => {
+            let answer = run(machine, words, labels);
+            let last = answer.machine;
+            let printed = print(last, words, labels, out);
+            printed.written.unwrap_or(0)
+        }
+        Err(refusal) => write_refusal(out, refusal.cause.number() as u64, refusal.line),
+    }
 }
 
 // Writes the line of a refusal and gives how many bytes it takes, or 0 where the output is too short.

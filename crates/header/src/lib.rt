@@ -25,6 +25,18 @@ pub struct Refusal<L> {
     pub line: L,
 }
 
+// The same refusal where a line's number is wider.
+impl From<Refusal<u32>> for Refusal<u64> {
+    ghost from_gives = { λ narrow wide. wide ≡ narrow };
+
+    fn from(refusal: Refusal<u32>) -> Refusal<u64> {
+        Refusal {
+            cause: refusal.cause,
+            line: refusal.line as u64,
+        }
+    }
+}
+
 // The machine of an M line.
 fn machine_of(header: Header) -> Machine
     requires { header_in_range header ≡ true }

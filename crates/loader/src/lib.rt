@@ -82,7 +82,7 @@ fn store_word(line: Line, words: &mut [u32], labels: &mut [Bits])
     };
     let at = address as usize;
     words[at] = value as u32;
-    labels[at] = (label % 16) as Bits;
+    labels[at] = label as Bits;
 }
 
 // The lines from `start` on, behind the M line of this machine: each is judged, and its word kept where it is accepted.

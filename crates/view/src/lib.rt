@@ -7,7 +7,7 @@ ghost use Rattle.model.specs.Record.{lent};
 ghost use Rattle.model.specs.View.{view, view_alone};
 ghost use Rattle.view.specs.Viewed.{viewed_of};
 
-use causes::{Cause, Outcome};
+use causes::Cause;
 use labels::Bits;
 use loader::load;
 use machine::run_to;
@@ -24,24 +24,11 @@ pub const MOST_WORDS: usize = numbers::MOST_WORDS as usize;
 // More bytes than any listing has.
 pub const OUTPUT: usize = 65536;
 
-// The outcome; the line of a text that was refused, or the limit where the tick is above it; and how many bytes were
-// written.
+// A view that is refused: why, and the line of a text that was refused, or the limit where the tick is above it, or 0.
 #[derive(Clone, Copy)]
-pub struct Viewed {
-    pub outcome: Outcome,
+pub struct Refused {
+    pub cause: Cause,
     pub value: u32,
-    pub bytes: usize,
-}
-
-// A refusal before the listing.
-fn refused(outcome: Outcome, value: u32) -> Viewed
-    ensures { result ≡ record { outcome = outcome; value = value; bytes = 0 } }
-{
-    Viewed {
-        outcome,
-        value,
-        bytes: 0,
-    }
 }
 
 // The view of a text from a label at a tick. The memory may hold anything: what lies below the text's size is set anew, and
@@ -53,27 +40,31 @@ pub fn view(
     words: &mut [u32],
     labels: &mut [Bits],
     out: &mut [u8],
-) -> Viewed
+) -> Result<usize, Refused>
     ensures { viewed_of result out.new words.new labels.new ≡ view label tick text.now (lent words.old labels.old) out.old }
 {
-    let loaded = load(text, words, labels);
-    let outcome = loaded.outcome;
-    let Outcome::Done = outcome else {
-        return refused(outcome, loaded.line);
+    let machine = match load(text, words, labels) {
+        Ok(machine) => machine,
+        Err(refusal) => {
+            return Err(Refused {
+                cause: refusal.cause,
+                value: refusal.line,
+            });
+        }
     };
-    let machine = loaded.machine;
     let limit = machine.fixed.limit;
     if (limit as u64) < tick {
-        return refused(Outcome::Refused(Cause::TickAboveLimit), limit);
+        return Err(Refused {
+            cause: Cause::TickAboveLimit,
+            value: limit,
+        });
     }
     let answer = run_to(machine, tick, words, labels);
     let there = answer.machine;
     let printed = print_for(there, label, words, labels, out);
-    let listed = printed.outcome;
-    Viewed {
-        outcome: listed,
-        value: 0,
-        bytes: printed.bytes,
+    match printed.written {
+        Ok(count) => Ok(count),
+        Err(cause) => Err(Refused { cause, value: 0 }),
     }
 }
 
@@ -85,12 +76,12 @@ pub fn view_alone(label: Bits, tick: u64, text: &[u8], out: &mut [u8; OUTPUT]) -
 {
     let mut words = [0u32; MOST_WORDS];
     let mut labels: [Bits; MOST_WORDS] = [0; MOST_WORDS];
-    let viewed = view(label, tick, text, &mut words, &mut labels, out);
-    let outcome = viewed.outcome;
-    let Outcome::Done = outcome else {
-        let number = outcome.number() as u64;
-        let value = viewed.value as u64;
-        return write_line(out, X, &[number, value]);
-    };
-    viewed.bytes
+    match view(label, tick, text, &mut words, &mut labels, out) {
+        Ok(count) => count,
+        Err(refused) => {
+            let number = refused.cause.number() as u64;
+            let value = refused.value as u64;
+            write_line(out, X, &[number, value])
+        }
+    }
 }
