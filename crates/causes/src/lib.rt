@@ -60,12 +60,15 @@ impl Cause {
     }
 }
 
+// The number of a call that was carried out.
+pub const DONE: u8 = 0;
+
 // The number of how a call ended: the refusal's, or 0.
 pub fn number_of(ended: Result<(), Cause>) -> u8
     ensures { result ≡ number_of (outcome_of ended) }
 {
     match ended {
-        Ok(()) => 0,
+        Ok(()) => DONE,
         Err(cause) => cause.number(),
     }
 }

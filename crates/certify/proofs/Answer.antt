@@ -1,5 +1,6 @@
 -- From what load, the watch and the line writer promise to the answers.
 -- Assumes nothing.
+use Rattle.std.specs.Prelude.{Option}
 use Prim.Native.Nat.{ℕ, ◌≤◌}
 use mathlib.Core.Path.{◌≡◌, sym, ap, ◌∙◌, subst}
 use mathlib.Core.Bool.{false}
@@ -18,7 +19,7 @@ use Rattle.model.proofs.Program.{load_ready}
 use Rattle.writer.specs.Writing.{Writing, answer, over, writing}
 use Rattle.writer.proofs.Answer.{line_whole}
 use Rattle.texts.proofs.Buffer.{front_counts}
-use Rattle.certify.specs.declared.Certificate.{Certificate}
+use Rattle.certify.specs.declared.Break.{Break}
 use Rattle.certify.specs.Certified.{certificate_of}
 use Rattle.certify.specs.Inner.Watch.{Loaded, Watched}
 
@@ -47,7 +48,7 @@ module _ (text : List ℕ) (m : Bank) (a : Loading) (e : a ≡ load text m) wher
   certified_refused ℓ h = rw (← e, h)
 
   -- An accepted one.
-  pub certified_done : {ℓ : ℕ} {r : Certificate} {words labels : List ℕ} → a.outcome ≡ Done
+  pub certified_done : {ℓ : ℕ} {r : Option Break} {words labels : List ℕ} → a.outcome ≡ Done
       → Watched ℓ (state_of_load a) r words labels
       → record { outcome = a.outcome; line = a.line; certificate = certificate_of r; memory = lent words labels }
       ≡ certifying ℓ text m

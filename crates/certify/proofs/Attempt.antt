@@ -1,5 +1,6 @@
 -- An attempt to release: what the code looks at is what the model says.
 -- Assumes nothing.
+use Rattle.std.specs.Prelude.{Option, Some, None}
 use Prim.Native.Nat.{ℕ, ◌+◌, ◌<◌, ◌≤◌}
 use mathlib.Core.Path.{◌≡◌, refl, sym, ap, ◌∙◌}
 use mathlib.Core.Logic.{⊎_elim}
@@ -19,8 +20,6 @@ use Rattle.model.proofs.Truth.{choice, either, and_three}
 use Rattle.parts.specs.Calls.{deadline_of}
 use Rattle.engine.specs.Stride.{fetches_relabelling}
 use Rattle.engine.proofs.Skimming.{relabels_number}
-use Rattle.certify.specs.declared.release.Found.{Found}
-use Rattle.certify.specs.declared.release.Found.TheVariants.{Word, Nothing}
 use Rattle.certify.specs.Inner.Release.{relabels, relabelling_at, tries_with, releases_with, has_time}
 use Rattle.certify.proofs.Steady.{keeping_quiet}
 
@@ -144,7 +143,7 @@ attempts_with ℓ s = go (below s && readable s && relabels (word s)) refl
   where
     go : (b : Bool) → (below s && readable s && relabels (word s)) ≡ b
         → (has_time s.fixed.limit s.control
-        && releases_with ℓ s.control.pair.pc (cond b (Word (word s)) Nothing) s.registers.values s.registers.labels)
+        && releases_with ℓ s.control.pair.pc (cond b (Some (word s)) None) s.registers.values s.registers.labels)
         ≡ attempts ℓ s
     go true e =
         let h = and_three (below s) (readable s) (relabels (word s)) e in
@@ -154,7 +153,7 @@ attempts_with ℓ s = go (below s && readable s && relabels (word s)) refl
         rw (keeping_quiet ℓ s (fetch_keeps s (below s) (readable s) (relabels (word s)) refl refl refl e), and-false)
 
 -- From what the functions promise.
-pub attempted_there : (ℓ : ℕ) (s : State) {time tried : Bool} {found : Found}
+pub attempted_there : (ℓ : ℕ) (s : State) {time tried : Bool} {found : Option ℕ}
     → found ≡ relabelling_at s.fixed.size s.control.pc s.control.pair.pc s.memory.values s.memory.labels
     → time ≡ has_time s.fixed.limit s.control
     → tried ≡ releases_with ℓ s.control.pair.pc found s.registers.values s.registers.labels

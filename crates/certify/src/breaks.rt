@@ -7,16 +7,10 @@ ghost use Rattle.certificates.specs.Certificate.{leads_within};
 ghost use Rattle.certify.specs.Certified.{certificate_of};
 ghost use Rattle.certify.specs.Inner.Breaks.{break_with};
 
-use crate::{Certificate, WHOLE};
+use crate::{Break, BreakCause};
 use labels::{Bits, Label};
 use model::{Control, Fixed};
 use parts::calls::{OpenCall, newest};
-use parts::word::index;
-
-// The causes of such states.
-const GATE: u8 = 2;
-
-const TIMING: u8 = 3;
 
 // Whether the label `other` flows to `label`.
 pub(in crate) fn is_within(label: Bits, other: Bits) -> bool
@@ -31,11 +25,7 @@ pub(in crate) fn leads_within(label: Bits, fixed: Fixed) -> bool
     ensures { result ≡ leads_within label fixed fixed.count }
 {
     let gates = fixed.gates;
-    let mut n = fixed.count;
-    while 0 < n {
-        n -= 1;
-        let at = index(n);
-        let gate = gates[at];
+    for gate in &gates[..fixed.count as usize] {
         let pair = gate.pair;
         if is_within(label, pair.pc) {
             return true;
@@ -45,34 +35,31 @@ pub(in crate) fn leads_within(label: Bits, fixed: Fixed) -> bool
 }
 
 // The break that a state is, or none. `opened` says whether a gate leads within.
-pub(in crate) fn break_of(label: Bits, opened: bool, control: Control) -> Certificate
+pub(in crate) fn break_of(label: Bits, opened: bool, control: Control) -> Option<Break>
     ensures { certificate_of result ≡ break_with label opened control }
 {
     let pair = control.pair;
     let tick = control.clock;
     if is_within(label, pair.pc) {
         if is_within(label, pair.timing) {
-            return WHOLE;
+            return None;
         }
         let place = control.pc;
-        return Certificate {
-            cause: TIMING,
-            tick,
-            place,
-        };
+        let cause = BreakCause::Timing;
+        return Some(Break { cause, tick, place });
     }
     let first = control.first;
     let second = control.second;
     let call = newest(first, second);
     if call.is_upcall() {
-        return WHOLE;
+        return None;
     }
     if opened {
-        return Certificate {
-            cause: GATE,
+        return Some(Break {
+            cause: BreakCause::Gate,
             tick,
             place: 0,
-        };
+        });
     }
-    WHOLE
+    None
 }

@@ -7,12 +7,12 @@ ghost use Rattle.model.specs.Numbers.{most_ticks};
 ghost use Rattle.model.specs.Record.{state_of, lent};
 ghost use Rattle.certificates.specs.Certificate.{certifying, certify_alone};
 ghost use Rattle.machine_record.specs.Struct.{record_of};
-ghost use Rattle.certify.specs.Certified.{certificate_of, certifying_of};
+ghost use Rattle.certify.specs.Certified.{certificate_of, certifying_of, numbers_in};
 ghost use Rattle.certify.specs.Inner.Watch.{first_with, steps_left, Loaded, Watched};
 
 use breaks::{break_of, leads_within};
-use causes::Outcome;
 use engine::{Task, advance};
+use header::Refusal;
 use labels::Bits;
 use loader::load;
 use machine_record::Machine;
@@ -24,31 +24,22 @@ use writer::write_line;
 mod breaks;
 mod release;
 
-// The first break: its cause, or 0; its tick; and its place.
+// What breaks a certificate, by its number: an attempt to release, a state at large while a gate leads within, and a state
+// whose timing label is outside.
 #[derive(Clone, Copy)]
-pub struct Certificate {
-    pub cause: u8,
+pub enum BreakCause {
+    Release = 1,
+    Gate = 2,
+    Timing = 3,
+}
+
+// A break: what it is, its tick, and its place.
+#[derive(Clone, Copy)]
+pub struct Break {
+    pub cause: BreakCause,
     pub tick: u32,
     pub place: u32,
 }
-
-// The outcome of load, the refusal's line or 0, and the certificate: beside a refusal stands one with no break.
-#[derive(Clone, Copy)]
-pub struct Certified {
-    pub outcome: Outcome,
-    pub line: u32,
-    pub certificate: Certificate,
-}
-
-// No break.
-const WHOLE: Certificate = Certificate {
-    cause: 0,
-    tick: 0,
-    place: 0,
-};
-
-// The cause of an attempt to release.
-const RELEASE: u8 = 1;
 
 // The letters of a certificate's line and of a refusal's.
 const V: u8 = b'V';
@@ -68,16 +59,13 @@ fn first_break(
     attempted: bool,
     place: u32,
     after: Control,
-) -> Certificate
+) -> Option<Break>
     ensures { certificate_of result ≡ first_with label opened attempted place after }
 {
     if attempted {
         let tick = after.clock;
-        return Certificate {
-            cause: RELEASE,
-            tick,
-            place,
-        };
+        let cause = BreakCause::Release;
+        return Some(Break { cause, tick, place });
     }
     break_of(label, opened, after)
 }
@@ -95,7 +83,7 @@ fn steps_left(limit: u32, control: Control) -> u32
 }
 
 // The first break of the run from a loaded machine on. The run goes on to its end behind it.
-fn watch(label: Bits, machine: Machine, words: &mut [u32], marks: &[Bits]) -> Certificate
+fn watch(label: Bits, machine: Machine, words: &mut [u32], marks: &[Bits]) -> Option<Break>
     requires { Loaded (state_of (record_of machine) (lent words.old marks.now)) }
     ensures { Watched label (state_of (record_of machine) (lent words.old marks.now)) result words.new marks.now }
 {
@@ -107,7 +95,7 @@ fn watch(label: Bits, machine: Machine, words: &mut [u32], marks: &[Bits]) -> Ce
     let opened = leads_within(label, fixed);
     let mut found = break_of(label, opened, control);
     let mut left = steps_left(fixed.limit, control);
-    while (found.cause == 0) & (0 < left) {
+    while found.is_none() & (0 < left) {
         let pair = control.pair;
         let place = control.pc;
         let word = relabelling(fixed.size, place, pair.pc, words, marks);
@@ -129,27 +117,27 @@ fn watch(label: Bits, machine: Machine, words: &mut [u32], marks: &[Bits]) -> Ce
     found
 }
 
-// Certifies a text at a label, in lent memory. That may hold anything: what lies below the text's size is set anew, and
-// is left as the run to the end leaves it.
-pub fn certify(label: Bits, text: &[u8], words: &mut [u32], labels: &mut [Bits]) -> Certified
+// Certifies a text at a label, in lent memory: the first break of its run, if any. The memory may hold anything: what lies
+// below the text's size is set anew, and is left as the run to the end leaves it.
+pub fn certify(
+    label: Bits,
+    text: &[u8],
+    words: &mut [u32],
+    labels: &mut [Bits],
+) -> Result<Option<Break>, Refusal<u32>>
     ensures { certifying_of result words.new labels.new ≡ certifying label text.now (lent words.old labels.old) }
 {
-    let loaded = load(text, words, labels);
-    let outcome = loaded.outcome;
-    let line = loaded.line;
-    let Outcome::Done = outcome else {
-        return Certified {
-            outcome,
-            line,
-            certificate: WHOLE,
-        };
-    };
-    let machine = loaded.machine;
-    let certificate = watch(label, machine, words, labels);
-    Certified {
-        outcome,
-        line,
-        certificate,
+    let machine = load(text, words, labels)?;
+    Ok(watch(label, machine, words, labels))
+}
+
+// The numbers of a certificate: cause, tick and place, each 0 where there is no break.
+pub fn numbers_of(found: Option<Break>) -> [u64; 3]
+    ensures { result ≡ numbers_in (certificate_of found) }
+{
+    match found {
+        Some(first) => [first.cause as u64, first.tick as u64, first.place as u64],
+        None => [0, 0, 0],
     }
 }
 
@@ -161,16 +149,12 @@ pub fn certify_alone(label: Bits, text: &[u8], out: &mut [u8; OUTPUT]) -> usize
 {
     let mut words = [0u32; MOST_WORDS];
     let mut labels: [Bits; MOST_WORDS] = [0; MOST_WORDS];
-    let certified = certify(label, text, &mut words, &mut labels);
-    let outcome = certified.outcome;
-    let Outcome::Done = outcome else {
-        let number = outcome.number() as u64;
-        let line = certified.line as u64;
-        return write_line(out, X, &[number, line]);
-    };
-    let certificate = certified.certificate;
-    let cause = certificate.cause as u64;
-    let tick = certificate.tick as u64;
-    let place = certificate.place as u64;
-    write_line(out, V, &[cause, tick, place])
+    match certify(label, text, &mut words, &mut labels) {
+        Ok(found) => write_line(out, V, &numbers_of(found)),
+        Err(refusal) => {
+            let number = refusal.cause.number() as u64;
+            let line = refusal.line as u64;
+            write_line(out, X, &[number, line])
+        }
+    }
 }

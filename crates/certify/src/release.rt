@@ -14,15 +14,14 @@ const RELABEL: u32 = 16;
 
 const TICKS: u32 = 2;
 
-// What the fetch gives: a word that relabels, or anything else.
-#[derive(Clone, Copy)]
-pub(in crate) enum Found {
-    Word(u32),
-    Nothing,
-}
-
-// What is fetched at the pc under the pc label p.
-pub(in crate) fn relabelling(size: u32, pc: u32, p: Bits, words: &[u32], marks: &[Bits]) -> Found
+// The word that is fetched at the pc under the pc label p, if it relabels.
+pub(in crate) fn relabelling(
+    size: u32,
+    pc: u32,
+    p: Bits,
+    words: &[u32],
+    marks: &[Bits],
+) -> Option<u32>
     requires { (size ≤ length words.now) × (size ≤ length marks.now) }
     ensures { result ≡ relabelling_at size pc p words.now marks.now }
 {
@@ -31,11 +30,11 @@ pub(in crate) fn relabelling(size: u32, pc: u32, p: Bits, words: &[u32], marks: 
         if Label(marks[at]).flows_to(Label(p)) {
             let w = words[at];
             if op_of(w) == RELABEL {
-                return Found::Word(w);
+                return Some(w);
             }
         }
     }
-    Found::Nothing
+    None
 }
 
 // Whether giving the label `value` to a register labelled `old`, where the value is labelled `source`, releases it under
@@ -56,10 +55,10 @@ fn tries_release(label: Bits, p: Bits, old: Bits, source: Bits, value: u32) -> b
 }
 
 // Whether what was fetched tries so.
-pub(in crate) fn releases(label: Bits, p: Bits, found: Found, registers: &Registers) -> bool
+pub(in crate) fn releases(label: Bits, p: Bits, found: Option<u32>, registers: &Registers) -> bool
     ensures { result ≡ releases_with label p found registers.now.values registers.now.labels }
 {
-    let Found::Word(w) = found else {
+    let Some(w) = found else {
         return false;
     };
     let a = a_of(w);

@@ -3,34 +3,24 @@
 ghost use Rattle.std.specs.Prelude.{◌≤◌, ◌≡◌, length};
 ghost use Rattle.model.specs.Record.{lent};
 ghost use Rattle.certify.specs.Certified.{certificate_of};
-ghost use Rattle.record_calls.specs.RecordCalls.{left, kept};
+ghost use Rattle.record_calls.specs.RecordCalls.{left};
 ghost use Rattle.jennydusk.specs.Calls.{certificate_span, holding_certificate, certify_call};
 
-use causes::Outcome;
-use certify::{Certificate, certify};
+use causes::DONE;
+use certify::{Break, certify, numbers_of};
 use labels::Bits;
 use load_calls::counted;
 use record_calls::{SHORT_BUFFER, is_short};
 
-// How many words a certificate takes, and where each stands.
+// How many words a certificate takes: its cause, its tick and its place.
 const CERTIFICATE_SPAN: usize = 3;
 
-const CAUSE: usize = 0;
-
-const TICK: usize = 1;
-
-const PLACE: usize = 2;
-
-// Writes the certificate, unless the text was refused.
-fn keep_certificate(outcome: Outcome, certificate: Certificate, buffer: &mut [u64])
+// Writes the certificate.
+fn keep_certificate(found: Option<Break>, buffer: &mut [u64])
     requires { certificate_span ≤ length buffer.old }
-    ensures { buffer.new ≡ kept outcome (holding_certificate (certificate_of certificate) buffer.old) buffer.old }
+    ensures { buffer.new ≡ holding_certificate (certificate_of found) buffer.old }
 {
-    if let Outcome::Done = outcome {
-        buffer[CAUSE] = certificate.cause as u64;
-        buffer[TICK] = certificate.tick as u64;
-        buffer[PLACE] = certificate.place as u64;
-    }
+    buffer[..CERTIFICATE_SPAN].copy_from_slice(&numbers_of(found));
 }
 
 // Certifies a text at a label: the certificate goes to its buffer, and words and labels hold what the run to the end leaves.
@@ -47,9 +37,11 @@ pub extern "C" fn jennydusk_certify(
     if is_short(certificate, CERTIFICATE_SPAN) {
         return SHORT_BUFFER;
     }
-    let certified = certify(label, text, words, labels);
-    let outcome = certified.outcome;
-    let found = certified.certificate;
-    keep_certificate(outcome, found, certificate);
-    counted(outcome.number(), certified.line)
+    match certify(label, text, words, labels) {
+        Ok(found) => {
+            keep_certificate(found, certificate);
+            counted(DONE, 0)
+        }
+        Err(refusal) => counted(refusal.cause.number(), refusal.line),
+    }
 }

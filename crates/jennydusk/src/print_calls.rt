@@ -3,6 +3,7 @@ ghost use Rattle.std.specs.Prelude.{◌≡◌};
 ghost use Rattle.model.specs.Record.{lent};
 ghost use Rattle.jennydusk.specs.Calls.{shown, print_for_call, print_call};
 
+use causes::DONE;
 use labels::{Bits, Label};
 use load_calls::counted;
 use printer::print_for;
@@ -26,8 +27,10 @@ pub extern "C" fn jennydusk_print_for(
         return no_record();
     };
     let printed = print_for(machine, label, words, labels, out);
-    let outcome = printed.outcome;
-    counted(outcome.number(), printed.bytes as u32)
+    match printed.written {
+        Ok(count) => counted(DONE, count as u32),
+        Err(cause) => counted(cause.number(), 0),
+    }
 }
 
 // Writes the whole listing: that of the highest label, which sees everything.

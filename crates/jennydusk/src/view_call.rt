@@ -3,6 +3,7 @@ ghost use Rattle.std.specs.Prelude.{◌≡◌};
 ghost use Rattle.model.specs.Record.{lent};
 ghost use Rattle.jennydusk.specs.Calls.{looked, view_call};
 
+use causes::DONE;
 use labels::Bits;
 use load_calls::counted;
 use view::view;
@@ -19,7 +20,8 @@ pub extern "C" fn jennydusk_view(
 ) -> u64
     ensures { looked result out.new words.new labels.new ≡ view_call text.now label tick (lent words.old labels.old) out.old }
 {
-    let viewed = view(label, tick, text, words, labels, out);
-    let outcome = viewed.outcome;
-    counted(outcome.number(), viewed.value + viewed.bytes as u32)
+    match view(label, tick, text, words, labels, out) {
+        Ok(count) => counted(DONE, count as u32),
+        Err(refused) => counted(refused.cause.number(), refused.value),
+    }
 }

@@ -10,7 +10,9 @@ ghost use Rattle.header.specs.Loading.{loading_of};
 ghost use Rattle.load_calls.specs.Loads.{counted, after_loading};
 
 pub use from_hex::after_loading_hex;
-use header::Loaded;
+use causes::DONE;
+use header::Refusal;
+use machine_record::Machine;
 use record_calls::keep;
 
 // A number is below this one; a line or a length stands above it.
@@ -24,11 +26,14 @@ pub fn counted(number: u8, count: u32) -> u64
 }
 
 // What a load answers and leaves of the record's buffer. Of the lent memory nothing is said here.
-pub fn after_loading(loaded: Loaded, record: &mut [u64]) -> u64
+pub fn after_loading(loaded: Result<Machine, Refusal<u32>>, record: &mut [u64]) -> u64
     ensures { (words labels : List ℕ) → left result «record».new words labels ≡ after_loading (loading_of loaded words labels) «record».old }
 {
-    let outcome = loaded.outcome;
-    let machine = loaded.machine;
-    keep(outcome, machine, record);
-    counted(outcome.number(), loaded.line)
+    match loaded {
+        Ok(machine) => {
+            keep(Ok(()), machine, record);
+            counted(DONE, 0)
+        }
+        Err(refusal) => counted(refusal.cause.number(), refusal.line),
+    }
 }

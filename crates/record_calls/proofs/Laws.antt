@@ -7,7 +7,7 @@ use mathlib.Core.Bool.{Bool, true, false}
 use mathlib.Core.List.{List}
 use lib.ListN.{length}
 use borrow.Author.Tests.{ltb-false}
-use Rattle.causes.specs.Causes.{number_of}
+use Rattle.causes.specs.Causes.{outcome_of, number_of}
 use Rattle.model.specs.Record.{Bank, Machine}
 use Rattle.model.specs.Answer as model
 use Rattle.machine.specs.declared.Answer as answer
@@ -43,8 +43,8 @@ module _ (f : Machine → Bank → model.Answer) (b : List ℕ) (m : Bank) where
   -- A buffer that holds one.
   pub was_called :
       (h : Holding) (machine : struct.Machine) (a : answer.Answer) {number : ℕ} {buffer words labels : List ℕ}
-      → read_of (Some machine) ≡ given h → answered a words labels ≡ f (record_of machine) m → number ≡ number_of a.outcome
-      → buffer ≡ kept_record a.outcome (record_of a.machine) b → left number buffer words labels ≡ called f h b m
+      → read_of (Some machine) ≡ given h → answered a words labels ≡ f (record_of machine) m → number ≡ number_of (outcome_of a.outcome)
+      → buffer ≡ kept_record (outcome_of a.outcome) (record_of a.machine) b → left number buffer words labels ≡ called f h b m
   was_called (holds r) machine a e s c k =
       rw (k, c) (ap (λ (z : model.Answer). after_answer z b) (s ∙ ap (λ (y : Machine). f y m) (ap (λ (y : Read). y.machine) e)))
   was_called nothing machine a e s c k = cc (ap (λ (y : Read). y.found) e)

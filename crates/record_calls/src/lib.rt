@@ -3,12 +3,13 @@
 #![tactic(auto)]
 
 ghost use Rattle.std.specs.Prelude.{◌≡◌};
+ghost use Rattle.causes.specs.Causes.{outcome_of};
 ghost use Rattle.model.specs.Record.{lent};
 ghost use Rattle.model.specs.Answer.{answer_of};
 ghost use Rattle.machine_record.specs.Struct.{record_of};
 ghost use Rattle.record_calls.specs.RecordCalls.{is_short, no_record, left, kept_record, record_call};
 
-use causes::{Cause, Outcome};
+use causes::{Cause, number_of};
 use labels::Bits;
 use machine::answer_of;
 use machine_record::Machine;
@@ -31,14 +32,14 @@ pub fn is_short(buffer: &[u64], least: usize) -> bool
 pub fn no_record() -> u64
     ensures { result ≡ no_record }
 {
-    Outcome::Refused(Cause::IllFormed).number() as u64
+    Cause::IllFormed.number() as u64
 }
 
-// Writes the record, unless the call with this outcome was refused.
-pub fn keep(outcome: Outcome, machine: Machine, record: &mut [u64])
-    ensures { «record».new ≡ kept_record outcome (record_of machine) «record».old }
+// Writes the record, unless the call that ended so was refused.
+pub fn keep(ended: Result<(), Cause>, machine: Machine, record: &mut [u64])
+    ensures { «record».new ≡ kept_record (outcome_of ended) (record_of machine) «record».old }
 {
-    if let Outcome::Done = outcome {
+    if let Ok(()) = ended {
         encoder::write(machine, record);
     }
 }
@@ -57,5 +58,5 @@ pub fn advanced(request: Request, record: &mut [u64], words: &mut [u32], labels:
     let outcome = answer.outcome;
     let next = answer.machine;
     keep(outcome, next, record);
-    outcome.number() as u64
+    number_of(outcome) as u64
 }

@@ -1,6 +1,6 @@
 -- The run looked at, as its functions promise it.
 -- Assumes nothing.
-use Rattle.std.specs.Prelude.{ℕ, ◌+◌, ◌-◌, ◌≡◌, Bool, true, cond, List, eqb}
+use Rattle.std.specs.Prelude.{ℕ, ◌+◌, ◌-◌, ◌≡◌, Bool, true, cond, List, Option, eqb}
 use Rattle.model.specs.declared.Control.{Control}
 use Rattle.model.specs.Record.{State, machine_of, lent}
 use Rattle.model.specs.WellFormed.{well_formed, lent_whole}
@@ -8,7 +8,7 @@ use Rattle.model.specs.Step.{run}
 use Rattle.model.specs.Inner.Typed.{Typed}
 use Rattle.certificates.specs.Certificate.{certify}
 use Rattle.certificates.specs.Certificate as model
-use Rattle.certify.specs.declared.Certificate.{Certificate}
+use Rattle.certify.specs.declared.Break.{Break}
 use Rattle.certify.specs.Certified.{certificate_of}
 use Rattle.certify.specs.Inner.Breaks.{break_with}
 
@@ -28,6 +28,6 @@ pub record Loaded (s : State) : Type 0 where
   pub whole : lent_whole s.fixed.size s.memory ≡ true
 
 -- The first break of the run from s on was found, and the run was done.
-pub record Watched (ℓ : ℕ) (s : State) (r : Certificate) (words labels : List ℕ) : Type 0 where
+pub record Watched (ℓ : ℕ) (s : State) (r : Option Break) (words labels : List ℕ) : Type 0 where
   pub certificate : certificate_of r ≡ certify ℓ s
   pub memory : lent words labels ≡ (run s).memory

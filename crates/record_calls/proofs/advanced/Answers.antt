@@ -32,4 +32,4 @@ returns c =
     when_long (untouched buffer memory) span buffer c.is_short.ensures c.if-is_short.false
     (was_called (answer_of c.args.request) buffer memory (machine_in buffer) c.in-Some.machine
     c.answer_of-answer.result (rw c.in-Some.is at c.read.ensures) c.answer_of-answer.ensures
-    c.number.ensures c.keep.ensures)
+    c.number_of.ensures c.keep.ensures)

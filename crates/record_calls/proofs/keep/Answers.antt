@@ -4,6 +4,6 @@ use mathlib.Core.Path.{ap}
 use Rattle.encoder.specs.Writing.{Written}
 use Rattle.record_calls.proofs.keep.Goals as goal
 
-pub returns-in-Done : goal.returns-in-Done
-returns-in-Done c =
-    rw c.in-Done.is (ap (λ (w : Written). w.buffer) c.write.ensures)
+pub returns-in-Ok : goal.returns-in-Ok
+returns-in-Ok c =
+    rw c.in-Ok.is (ap (λ (w : Written). w.buffer) c.write.ensures)
