@@ -1,5 +1,7 @@
 -- From what run, print and the line writer promise to what `fire_loaded` promises, and that this is a load fired.
 -- Assumes nothing.
+use Rattle.std.specs.Prelude.{Result, Ok, Err}
+use Rattle.std.specs.Result.{result_unwrap_or}
 use Prim.Native.Nat.{ℕ, ◌<◌, ◌≤◌}
 use mathlib.Core.Path.{◌≡◌, refl, ap, ◌∙◌}
 use mathlib.Core.Logic.{⊎_elim}
@@ -7,6 +9,7 @@ use mathlib.Core.Bool.{Bool, true, false, cond}
 use mathlib.Core.List.{List, [], ◌∷◌, ◌++◌}
 use lib.Dec.{leb}
 use lib.ListN.{length, drop}
+use Rattle.causes.specs.declared.Cause.{Cause}
 use Rattle.causes.specs.Causes.{Done, number_of, is_done}
 use Rattle.causes.proofs.Numbers.{is_done_lem}
 use borrow.Author.Tests.{le-leb, lt-leb}
@@ -21,6 +24,9 @@ use Rattle.model.proofs.Ready.{Ready}
 use Rattle.model.proofs.Run.{run_ready}
 use Rattle.model.proofs.Program.{ReadyLoad, run_done, print_done}
 use Rattle.writer.specs.Writing.{Writing, answer, over, written, writing}
+use Rattle.machine_record.specs.Struct.{record_of}
+use Rattle.printer.specs.declared.Printed.{Printed}
+use Rattle.printer.specs.Printing.{printing_of, printing_with}
 use Rattle.fire.specs.InTurn.{refusing, wrote, printed, in_turn}
 
 -- Either way of a choice.
@@ -106,3 +112,13 @@ pub accepted_firing : (a : Loading) (out : List ℕ) (b : Answer) (p : Printing)
     → b ≡ run_answer a.machine a.memory → p ≡ print b.machine b.memory out → printed p b.memory ≡ in_turn a out
 unfolding in_turn
 accepted_firing a out b p z f g = rw (z, g, f)
+
+-- What was printed counts its bytes, or 0 where it was refused.
+pub printed_counts : (p : Printed) (out : List ℕ) (m : Bank)
+    → record { bytes = result_unwrap_or p.written 0; output = out; memory = m } ≡ printed (printing_of p out) m
+printed_counts p out m = counts p.written
+  where
+    counts : (w : Result ℕ Cause)
+        → record { bytes = result_unwrap_or w 0; output = out; memory = m } ≡ printed (printing_with w (record_of p.machine) out) m
+    counts (Ok n) = refl
+    counts (Err c) = refl

@@ -4,6 +4,7 @@
 
 ghost use Rattle.std.specs.Prelude.{◌≤◌, ◌≡◌, length, take};
 ghost use Rattle.model.specs.Record.{lent};
+ghost use Rattle.model.specs.Load.{load};
 ghost use Rattle.model.specs.Program.{fire, fire_whole, fire_alone};
 ghost use Rattle.writer.specs.Writing.{answer};
 ghost use Rattle.header.specs.Loading.{loading_of};
@@ -33,8 +34,15 @@ pub const OUTPUT: usize = 65536;
 pub fn fire(text: &[u8], words: &mut [u32], labels: &mut [Bits], out: &mut [u8]) -> usize
     ensures { fired result out.new words.new labels.new ≡ fire text.now (lent words.old labels.old) out.old }
 {
-    let loaded = load(text, words, labels).map_err(Refusal::from);
+    let loaded = load_text(text, words, labels);
     fire_loaded(loaded, words, labels, out)
+}
+
+// Loads a text, with a refusal's line as wide as those of all images.
+fn load_text(text: &[u8], words: &mut [u32], labels: &mut [Bits]) -> Result<Machine, Refusal<u64>>
+    ensures { loading_of result words.new labels.new ≡ load text.now (lent words.old labels.old) }
+{
+    Ok(load(text, words, labels)?)
 }
 
 // Fires what a load has given: the machine is run and printed, or the line of a refusal is written. Gives how many bytes of

@@ -9,8 +9,8 @@ ghost use Rattle.record_calls.specs.RecordCalls.{left};
 ghost use Rattle.header.specs.Loading.{loading_of};
 ghost use Rattle.load_calls.specs.Loads.{counted, after_loading};
 
-pub use from_hex::after_loading_hex;
 use causes::DONE;
+pub use from_hex::after_loading_hex;
 use header::Refusal;
 use machine_record::Machine;
 use record_calls::keep;

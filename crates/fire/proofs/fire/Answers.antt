@@ -10,7 +10,6 @@ use Rattle.fire.proofs.fire.Goals as goal
 pub returns : goal.returns
 unfolding fire
 returns c =
-    let given = c.args in
-    let text = given.text.now in
-    let memory = lent given.words.now given.labels.now in
-    load_fired (load text memory) given.out.now _ (load_ready text memory) c.load-loaded.ensures c.fire_loaded.ensures
+    let text = c.args.text.now in
+    let memory = lent c.args.words.now c.args.labels.now in
+    load_fired (load text memory) c.args.out.now _ (load_ready text memory) c.load_text-loaded.ensures c.fire_loaded.ensures

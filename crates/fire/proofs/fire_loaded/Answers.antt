@@ -1,11 +1,12 @@
 -- `fire::fire_loaded` meets its contract: a refusal's line, or the listing after the run.
 -- Assumes nothing.
-use mathlib.Core.Path.{refl}
+use mathlib.Core.Path.{refl, ◌∙◌}
 use Rattle.std.specs.Prelude.{Ok, Err}
+use Rattle.model.specs.Record.{lent}
 use Rattle.header.specs.Loading.{loading_of}
 use Rattle.writer.specs.Writing.{answer}
 use Rattle.printer.specs.Printing.{printing_of}
-use Rattle.fire.proofs.Laws.{refused_firing, accepted_firing}
+use Rattle.fire.proofs.Laws.{refused_firing, accepted_firing, printed_counts}
 use Rattle.fire.proofs.fire_loaded.Goals as goal
 
 pub returns-in-Err : goal.returns-in-Err
@@ -16,7 +17,7 @@ returns-in-Err c =
 
 pub returns-in-Ok : goal.returns-in-Ok
 returns-in-Ok c =
-    rw c.in-Ok.is
-    (let p = accepted_firing (loading_of (Ok c.in-Ok.machine) c.args.words.now c.args.labels.now) c.args.out.now _
-    (printing_of c.print-printed.result c.print-printed.new.out) refl c.run-answer.ensures c.print-printed.ensures in
-    let h = c.unwrap_or in ?)
+    rw (c.in-Ok.is, c.unwrap_or.ensures)
+    (printed_counts c.print-printed.result c.print-printed.new.out (lent c.run-answer.new.words c.run-answer.new.marks)
+    ∙ accepted_firing (loading_of (Ok c.in-Ok.machine) c.args.words.now c.args.labels.now) c.args.out.now _
+    (printing_of c.print-printed.result c.print-printed.new.out) refl c.run-answer.ensures c.print-printed.ensures)
