@@ -1,32 +1,32 @@
 -- The answer of the load: on the M text, from what a load answers on its first line; on the records, from their verdict.
 -- Assumes nothing.
-use Prim.Native.Nat.{ℕ, ◌+◌, ◌-◌, ◌*◌, ◌≤◌, ◌<◌}
+use Prim.Native.Nat.{ℕ, zero, suc, ◌+◌, ◌-◌, ◌*◌, ◌≤◌, ◌<◌}
 use mathlib.Core.Path.{◌≡◌, refl, sym, ap, ◌∙◌}
 use mathlib.Core.Bool.{false}
-use mathlib.Core.List.{List, ◌++◌}
+use mathlib.Core.List.{List, ◌∷◌, ◌++◌}
 use native.Mathlib.Omega.{arith}
 use lib.Dec.{leb}
 use lib.ListN.{length, take, drop, replicate, length-replicate, replicate-append-replicate}
 use lib.Seq.{take_at}
 use borrow.Author.Tests.{le-leb, lt-leb}
+use Rattle.std.specs.Prelude.{Option, None}
+use Rattle.std.proofs.lemmas.List.{length-map}
 use Rattle.causes.specs.declared.Cause.{Cause}
 use Rattle.causes.specs.declared.Cause.TheVariants.{OutOfOrder}
-use Rattle.causes.specs.Causes.{Done, Refused, is_done}
+use Rattle.causes.specs.Causes.{Done, is_done}
 use Rattle.causes.specs.Tests.{unless}
 use Rattle.model.specs.declared.format.Read.{Read}
 use Rattle.model.specs.Record.{Bank, Machine, lent}
 use Rattle.model.specs.Text.{read_line}
-use Rattle.model.specs.Load.{Verdict, refuse, accept, ◌and_then◌, judge_header, Loading}
-use Rattle.model.specs.HexLoad.{judge_alone, no_bytes, word_at, word_label, firsts, placed, settle_hex, load_hex}
+use Rattle.model.specs.Hex.{records}
+use Rattle.model.specs.Load.{Verdict, refuse, accept, ◌and_then◌, judge_header, Loading, refusal}
+use Rattle.model.specs.HexLoad.{judge_alone, judge_records, settle_records, no_bytes, word_at, word_label, firsts, placed, settle_hex, load_hex}
 use Rattle.model.proofs.HexLoad.{alone_accepts}
-use Rattle.machine_record.specs.Struct.{record_of}
 use Rattle.header.specs.Loading.{headed}
 use Rattle.header.proofs.Heading.{headed_accepts, headed_refuses}
 use Rattle.header.proofs.Room.{Room, heads_room}
-use Rattle.hexloader.specs.declared.Loaded.{Loaded}
-use Rattle.hexloader.specs.declared.records.Judged.{Judged}
-use Rattle.hexloader.specs.Loading.{loading_of}
-use Rattle.hexloader.specs.Inner.Judging.{IsRefusal, RecordsJudged, load_records}
+use Rattle.hexloader.specs.Inner.Places.{number_of, numbers_of}
+use Rattle.hexloader.specs.Inner.Judging.{load_records}
 
 -- ---- the M text
 
@@ -71,28 +71,22 @@ module _ (text : List ℕ) (m : Bank) (read : Read) (q : read ≡ read_line text
           accepted_headed (judge_header (length text) read.line m) (judge_alone text m) m a e z
           (accepts ∙ rw (le-leb (length text) read.next h))
 
--- A refusal, where the verdict is one.
-pub refused_headed : (v : Verdict Machine) (r : Loaded) (c : Cause) (n : ℕ) (w l : List ℕ) → IsRefusal r c n → v ≡ refuse c n
-    → loading_of r w l ≡ headed v (lent w l)
-refused_headed v r c n w l h e = rw (h.0, h.1, h.2, e)
-
 -- ---- the records
 
-module _ (r : Machine) (hex before : List ℕ) (j : Judged) (after : List ℕ) (a : RecordsJudged hex before j after)
-    (label : ℕ) (w l : List ℕ)
-  where
-    -- One is refused.
-    pub record_refused : (c : Cause) (x : Loaded) → j.outcome ≡ Refused c → IsRefusal x c j.line
-        → loading_of x w l ≡ load_records r hex label before (lent w l)
-    record_refused c x z q = rw (q.0, q.1, q.2, ← a, z)
+module _ (r : Machine) (hex before : List ℕ) (label : ℕ) (w l : List ℕ) where
+  -- One is refused.
+  pub record_refused : (c : Cause) (n : ℕ) → refuse c n ≡ judge_records 1 (records hex) before
+      → refusal c n (lent w l) ≡ load_records r hex label before (lent w l)
+  record_refused c n e = ap (λ (v : Verdict (List ℕ)). settle_records r label v (lent w l)) e
 
-    -- All are accepted, and words and labels are made of their bytes.
-    pub records_accepted : (x : Loaded) (w' l' : List ℕ) → x.outcome ≡ j.outcome → x.line ≡ 0 → j.outcome ≡ Done
-        → record_of x.machine ≡ r → w' ≡ firsts r.fixed.size (word_at after) ++ drop r.fixed.size w
-        → l' ≡ firsts r.fixed.size (word_label label after) ++ drop r.fixed.size l
-        → loading_of x w' l' ≡ load_records r hex label before (lent w l)
-    unfolding placed
-    records_accepted x w' l' o n z s p q = rw (o, n, z, s, p, q) (rw (← a, z))
+  -- All are accepted, and words and labels are made of their bytes.
+  pub records_accepted : (after w' l' : List ℕ) → accept after ≡ judge_records 1 (records hex) before
+      → w' ≡ firsts r.fixed.size (word_at after) ++ drop r.fixed.size w
+      → l' ≡ firsts r.fixed.size (word_label label after) ++ drop r.fixed.size l
+      → record { outcome = Done; line = 0; machine = r; memory = lent w' l' } ≡ load_records r hex label before (lent w l)
+  unfolding placed
+  records_accepted after w' l' e p q =
+      rw (p, q) (ap (λ (v : Verdict (List ℕ)). settle_records r label v (lent w l)) e)
 
 -- ---- the answer
 
@@ -113,14 +107,22 @@ module _ (text hex : List ℕ) (label : ℕ) (m : Bank) (a : Loading) (e : a ≡
 
 -- ---- places
 
+none_given : (n : ℕ) → numbers_of (replicate n None) ≡ replicate n 256
+none_given zero = refl
+none_given (suc n) = ap (λ (places : List ℕ). 256 ∷ places) (none_given n)
+
 -- Of the places for the largest memory so many are those for the bytes of a smaller one.
-pub some_places : (size : ℕ) → size ≤ 2048 → take (4 * size) (replicate 8192 256) ≡ no_bytes size
+pub some_places : (size : ℕ) → size ≤ 2048 → numbers_of (take (4 * size) (replicate 8192 None)) ≡ no_bytes size
 some_places size h =
     let rest : 4 * size + (8192 - 4 * size) ≡ 8192 = omega arith in
-    ap (λ (n : ℕ). take (4 * size) (replicate n 256)) (sym rest)
-    ∙ ap (take (4 * size)) (sym (replicate-append-replicate (4 * size) (8192 - 4 * size) 256))
-    ∙ take_at (replicate (4 * size) 256) _ (4 * size) (length-replicate (4 * size) 256)
+    ap (λ (n : ℕ). numbers_of (take (4 * size) (replicate n None))) (sym rest)
+    ∙ ap (λ (ps : List (Option ℕ)). numbers_of (take (4 * size) ps)) (sym (replicate-append-replicate (4 * size) (8192 - 4 * size) None))
+    ∙ ap numbers_of (take_at (replicate (4 * size) None) _ (4 * size) (length-replicate (4 * size) None))
+    ∙ none_given (4 * size)
 
 -- They are so many.
-pub some_length : (size : ℕ) → size ≤ 2048 → length {A = ℕ} (take (4 * size) (replicate 8192 256)) ≡ 4 * size
-some_length size h = ap length (some_places size h) ∙ length-replicate (4 * size) 256
+pub some_length : (size : ℕ) → size ≤ 2048 → length {A = Option ℕ} (take (4 * size) (replicate 8192 None)) ≡ 4 * size
+some_length size h =
+    sym (length-map (take (4 * size) (replicate 8192 None)) number_of)
+    ∙ ap length (some_places size h)
+    ∙ length-replicate (4 * size) 256

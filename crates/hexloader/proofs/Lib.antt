@@ -1,6 +1,6 @@
 -- What the loops keep: bytes given, records judged, words placed; and the answer from them.
 mod Giving
 mod Judging
+mod Places
 mod Placing
 mod Answer
-pub mod Faithful

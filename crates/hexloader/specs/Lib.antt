@@ -1,3 +1,2 @@
-pub mod Loading
 -- What only the contracts of inner functions cite.
 pub mod Inner

@@ -1,75 +1,75 @@
 -- `hexreader::read_record` meets its contract: a bad record, or one that is whole and whose line ends.
 -- Assumes nothing.
-use Prim.Native.Nat.{ℕ, ◌+◌, ◌*◌, ◌≤◌}
-use mathlib.Core.Path.{◌≡◌}
-use mathlib.Core.Bool.{true, ◌&&◌}
-use mathlib.Core.List.{List}
+use Prim.Native.Nat.{◌+◌, ◌*◌, ◌≤◌}
+use mathlib.Core.Path.{◌≡◌, sym, ◌∙◌}
 use native.Mathlib.Omega.{arith}
-use lib.Dec.{eqb}
-use lib.ListN.{length, drop, get_or, length-drop}
-use Rattle.model.specs.Hex.{bytes, is_whole}
-use Rattle.texts.proofs.Hex.{line_within}
-use Rattle.hexreader.proofs.Laws.{read_bad, whole_frame, whole_within, read_open, read_closed}
+use lib.ListN.{length, get_or}
+use Rattle.std.proofs.lemmas.Option.{get_or_from_slice_get}
+use Rattle.texts.proofs.Text.{reaches}
+use Rattle.hexreader.proofs.Laws.{no_colon, not_full, frame_within, digits_within, end_within, read_open, read_bad, read_closed}
 use Rattle.hexreader.proofs.read_record.Goals as goal
-use Rattle.hexreader.proofs.read_record.Goals.{After-sum_bytes-total, Then-begun-is_whole}
+use Rattle.hexreader.proofs.read_record.Goals.{In_ok-digits, In_ok-first}
 
--- The text, seen from where its total is known.
-abbrev text_of : After-sum_bytes-total → List ℕ
-text_of c = c.args.text.now
+-- What it begins with.
+begins : (c : In_ok-first) → get_or c.args.text.now 0 0 ≡ c.in_ok-first.field-0.now
+begins c = get_or_from_slice_get c.args.text.now 0 _ 0 (sym c.in_ok-first.ensures.value)
 
--- The total, seen from where the record is known to be whole.
-abbrev total : Then-begun-is_whole → After-sum_bytes-total
-total c = (goal.at.Then-begun-is_whole c).After-sum_bytes-total
+pub returns-in_err-first : goal.returns-in_err-first
+returns-in_err-first c =
+    rw c.from_residual.ensures
+    (no_colon c.args.text.now (λ e. omega (arith, reaches c.args.text.now 0 58 e (omega arith), c.in_err-first.ensures.item.3)))
 
--- It begins with a colon and is whole.
-whole : (c : Then-begun-is_whole)
-    → (eqb (get_or (text_of (total c)) 0 0) 58 && is_whole (bytes (drop 1 (text_of (total c))))) ≡ true
-whole c = rw (c.is_whole.ensures, c.letter_at-begun.ensures) at c.if-begun-is_whole.true
+pub returns-then-branch-ne-COLON : goal.returns-then-branch-ne-COLON
+returns-then-branch-ne-COLON c =
+    no_colon c.args.text.now
+    (λ e. c.if-branch-ne-COLON.true (sym (begins (goal.at.returns-then-branch-ne-COLON c).In_ok-first) ∙ e))
 
 -- Its digits lie in the text.
-within : (c : Then-begun-is_whole) → 1 + 2 * (total c).sum_bytes-total.result.count ≤ length (text_of (total c))
-within c = omega (arith, (total c).sum_bytes-total.ensures.counted, whole_within (text_of (total c)) (whole c))
+within : (c : In_ok-digits) → 1 + 2 * c.in_ok-digits.field-0 ≤ length c.args.text.now
+within c = digits_within c.args.text.now c.in_ok-digits.field-0 c.in_ok-digits.ensures
+
+-- It begins with a colon.
+colon : (c : In_ok-digits) → get_or c.args.text.now 0 0 ≡ 58
+colon c = begins (goal.at.In_ok-digits c).In_ok-first ∙ c.if-branch-ne-COLON.false
+
+pub returns-in_err-digits : goal.returns-in_err-digits
+returns-in_err-digits c =
+    rw c.from_residual-in_err-digits.ensures
+    (not_full c.args.text.now
+    (begins (goal.at.returns-in_err-digits c).In_ok-first ∙ c.if-branch-ne-COLON.false)
+    c.in_err-digits.ensures)
 
 pub overflow_mul-digits : goal.overflow_mul-digits
-overflow_mul-digits c = omega (arith, within (goal.at.overflow_mul-digits c).Then-begun-is_whole)
+overflow_mul-digits c = omega (arith, within c)
 
 pub overflow_add-digits : goal.overflow_add-digits
-overflow_add-digits c = omega (arith, within (goal.at.overflow_add-digits c).Then-begun-is_whole)
+overflow_add-digits c = omega (arith, within c)
 
-pub line_end-end-requires : goal.line_end-end-requires
-line_end-end-requires c = within (goal.at.line_end-end-requires c).Then-begun-is_whole
+pub slice_bounds-line_end-count : goal.slice_bounds-line_end-count
+slice_bounds-line_end-count c = within c
+
+pub slice_bounds-line_end-start : goal.slice_bounds-line_end-start
+slice_bounds-line_end-start c = omega (arith, within c)
+
+pub returns-in_err-end : goal.returns-in_err-end
+returns-in_err-end c =
+    rw c.from_residual-in_err-end.ensures
+    (read_open c.args.text.now _ c.in_ok-digits.ensures (colon (goal.at.returns-in_err-end c).In_ok-digits) c.in_err-end.ensures)
 
 pub record_of-requires : goal.record_of-requires
-record_of-requires c =
-    let known = c in whole_frame (text_of (total (goal.at.record_of-requires c).Then-begun-is_whole)) (whole (goal.at.record_of-requires c).Then-begun-is_whole)
+record_of-requires c = frame_within c.args.text.now _ c.in_ok-digits.ensures
+
+pub returns-in_err-found : goal.returns-in_err-found
+returns-in_err-found c =
+    rw c.from_residual-in_err-found.ensures
+    (read_bad c.args.text.now _ c.in_ok-digits.ensures (colon (goal.at.returns-in_err-found c).In_ok-digits) _ c.in_ok-end.ensures
+    c.in_err-found.ensures)
 
 pub overflow_add-result : goal.overflow_add-result
 overflow_add-result c =
-    let ended = c in
-    let known = ended in
-    let digits = 1 + 2 * (total (goal.at.overflow_add-result c).Then-begun-is_whole).sum_bytes-total.result.count in
-    omega (
-      arith,
-      within (goal.at.overflow_add-result c).Then-begun-is_whole,
-      length-drop digits (text_of (total (goal.at.overflow_add-result c).Then-begun-is_whole)),
-      line_within (drop digits (text_of (total (goal.at.overflow_add-result c).Then-begun-is_whole))),
-      ended.line_end-end.ensures,
-    )
+    omega (arith, end_within c.args.text.now _ c.in_ok-digits.ensures _ c.in_ok-end.ensures)
 
-pub returns-then-end-gt0 : goal.returns-then-end-gt0
-returns-then-end-gt0 c =
-    let ended = c in
-    let known = ended in
-    read_closed _ (whole (goal.at.returns-then-end-gt0 c).Then-begun-is_whole) (total (goal.at.returns-then-end-gt0 c).Then-begun-is_whole).sum_bytes-total.ensures.counted ended.line_end-end.ensures c.record_of.result
-    c.if-end-gt0.true
-    c.record_of.ensures
-
-pub returns-else-end-gt0 : goal.returns-else-end-gt0
-returns-else-end-gt0 c =
-    let ended = c in
-    let known = ended in
-    read_open _ (whole (goal.at.returns-else-end-gt0 c).Then-begun-is_whole) (total (goal.at.returns-else-end-gt0 c).Then-begun-is_whole).sum_bytes-total.ensures.counted ended.line_end-end.ensures c.if-end-gt0.false
-
-pub returns-else-begun-is_whole : goal.returns-else-begun-is_whole
-returns-else-begun-is_whole c =
-    read_bad _ (rw (c.is_whole.ensures, c.letter_at-begun.ensures) at c.if-begun-is_whole.false)
+pub returns : goal.returns
+returns c =
+    read_closed c.args.text.now _ c.in_ok-digits.ensures (colon (goal.at.returns c).In_ok-digits) _ c.in_ok-end.ensures
+    _ c.in_ok-found.ensures

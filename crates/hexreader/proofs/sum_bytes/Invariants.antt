@@ -1,5 +1,4 @@
--- `hexreader::sum_bytes` meets its contract: `count` bytes are counted, `sum` is their sum modulo 256, and `byte` is what the
--- next two digits write.
+-- `hexreader::sum_bytes` meets its contract: `count` bytes are counted, and `sum` is their sum modulo 256.
 -- Assumes nothing.
 use Prim.Native.Nat.{◌-◌}
 use lib.ListN.{length}
@@ -7,7 +6,7 @@ use Rattle.hexreader.proofs.Laws.{Adding}
 use Rattle.hexreader.proofs.sum_bytes.Given as goal
 
 abbrev pub invariant-loop-byte : goal.invariant-loop-byte
-invariant-loop-byte l = Adding l.text l.count l.sum l.byte
+invariant-loop-byte l = Adding l.text l.count l.sum
 
 abbrev pub decreases-loop-byte : goal.decreases-loop-byte
 decreases-loop-byte l = length l.text - l.count

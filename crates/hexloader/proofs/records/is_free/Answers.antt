@@ -1,14 +1,14 @@
 -- `hexloader::records::is_free` meets its contract: behind the end no place is free.
 -- Assumes nothing.
-use lib.ListN.{get_or-eq_default}
-use borrow.Author.Rules.{rules}
-use Rattle.model.specs.HexLoad.{is_free}
+use mathlib.Core.Path.{◌∙◌}
+use lib.ListN.{length}
+use borrow.Author.Tests.{le-ltb}
+use Rattle.hexloader.proofs.Places.{free_at, none_free}
 use Rattle.hexloader.proofs.records.is_free.Goals as goal
 
 pub returns-then-at-places : goal.returns-then-at-places
-unfolding is_free
-returns-then-at-places c = search rules
+returns-then-at-places c = free_at c.args.places.now c.args.at _ c.if-at-places.true c.is_none.ensures
 
 pub returns-else-at-places : goal.returns-else-at-places
-unfolding is_free
-returns-else-at-places c = rw (get_or-eq_default c.args.places.now 0 c.if-at-places.false)
+returns-else-at-places c =
+    le-ltb c.args.at (length c.args.places.now) c.if-at-places.false ∙ none_free c.args.places.now c.args.at c.if-at-places.false

@@ -1,33 +1,30 @@
 -- `hexloader::words::label_at` meets its contract: the word has a byte in one of its four places, or in none.
 -- Assumes nothing.
+use Prim.Native.Nat.{◌+◌, ◌-◌, ◌*◌}
 use mathlib.Core.Path.{◌≡◌, sym, ◌∙◌}
-use mathlib.Core.Bool.{◌||◌}
-use Rattle.labels.proofs.Constants.{lowest_number}
+use native.Mathlib.Omega.{arith}
+use lib.ListN.{take, drop}
+use Rattle.std.proofs.Common.{rules, tests, is_some}
+use Rattle.std.proofs.lemmas.Iterator.{YieldsList-from_slice}
+use Rattle.std.proofs.lemmas.Iterator.Search.{any_from_yields_List}
 use Rattle.model.specs.HexLoad.{has_byte, word_label}
-use Rattle.hexloader.proofs.Placing.{four_tests}
+use Rattle.labels.proofs.Constants.{lowest_number}
+use Rattle.hexloader.specs.Inner.Places.{numbers_of}
+use Rattle.hexloader.proofs.Places.{word_given}
 use Rattle.hexloader.proofs.words.label_at.Goals as goal
-use Rattle.hexloader.proofs.words.label_at.Goals.{After-is_given-4}
+use Rattle.hexloader.proofs.words.label_at.Goals.{After-any-given}
 
 -- Whether one of the four has a byte.
-told : (c : After-is_given-4)
-    → (c.is_given.result || c.is_given-2.result
-    || (c.is_given-3.result || c.is_given-4.result))
-    ≡ has_byte c.args.places.now c.args.k
-unfolding has_byte
+told : (c : After-any-given) → c.any-given.result ≡ has_byte (numbers_of c.args.places.now) c.args.k
 told c =
-    four_tests c.is_given.result c.is_given-2.result
-    c.is_given-3.result c.is_given-4.result
-    ∙ rw (
-      c.is_given.ensures,
-      c.is_given-2.ensures,
-      c.is_given-3.ensures,
-      c.is_given-4.ensures,
-    )
+    let n : 4 * c.args.k + 4 - 4 * c.args.k ≡ 4 = omega arith in
+    any_from_yields_List is_some _ _ c.any-given.result c.any-given.ensures.ran (YieldsList-from_slice (take 4 (drop (4 * c.args.k) c.args.places.now)) (c.iter.ensures.rest ∙ rw n)) (λ x b q k. search (rules, tests))
+    ∙ word_given c.args.places.now c.args.k c.requires
 
-pub returns-then-low-high : goal.returns-then-low-high
+pub returns-then-given : goal.returns-then-given
 unfolding word_label
-returns-then-low-high c = rw (sym (told (goal.at.returns-then-low-high c).After-is_given-4) ∙ c.if-low-high.true)
+returns-then-given c = rw (sym (told (goal.at.returns-then-given c).After-any-given) ∙ c.if-given.true)
 
-pub returns-else-low-high : goal.returns-else-low-high
+pub returns-else-given : goal.returns-else-given
 unfolding word_label
-returns-else-low-high c = rw (sym (told (goal.at.returns-else-low-high c).After-is_given-4) ∙ c.if-low-high.false, lowest_number)
+returns-else-given c = rw (sym (told (goal.at.returns-else-given c).After-any-given) ∙ c.if-given.false, lowest_number)

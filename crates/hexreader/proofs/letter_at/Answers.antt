@@ -1,8 +1,0 @@
--- `hexreader::letter_at` meets its contract: behind the end stands 0.
--- Assumes nothing.
-use mathlib.Core.Path.{sym}
-use lib.ListN.{get_or-eq_default}
-use Rattle.hexreader.proofs.letter_at.Goals as goal
-
-pub returns-else-at-text : goal.returns-else-at-text
-returns-else-at-text c = sym (get_or-eq_default c.args.text.now 0 c.if-at-text.false)
