@@ -24,9 +24,7 @@ pub fn fire_hex(
     ensures { fired result out.new words.new labels.new ≡ fire_hex text.now hex.now label (lent words.old labels.old) out.old }
 {
     let loaded = load_hex(text, hex, label, words, labels);
-    let outcome = loaded.outcome;
-    let machine = loaded.machine;
-    fire_loaded(outcome, loaded.line, machine, words, labels, out)
+    fire_loaded(loaded, words, labels, out)
 }
 
 // The same in a memory of its own, all 0, and into an output that has room for every reply: what the program `hexfiring`

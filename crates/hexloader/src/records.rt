@@ -65,11 +65,13 @@ pub(in crate) fn judge_records(hex: &[u8], places: &mut [Option<u8>]) -> Result<
             return Err(malformed(line));
         };
         let next = at + read.next;
-        match read.found {
-            Found::Data { address, count } => give_bytes(rest, address, count, line, places)?,
-            Found::End if next == hex.len() => return Ok(()),
-            Found::End => return Err(malformed(line + 1)),
-        }
+        let Found::Data { address, count } = read.found else {
+            if next == hex.len() {
+                return Ok(());
+            }
+            return Err(malformed(line + 1));
+        };
+        give_bytes(rest, address, count, line, places)?;
         at = next;
         line += 1;
     }

@@ -26,11 +26,11 @@ pub give_bytes-requires : goal.give_bytes-requires
 give_bytes-requires c =
     rw (part c.loop-at.at c.args.hex.now) (data_fits (record_at (goal.at.give_bytes-requires c).In-Some) c.in-Data.is)
 
-pub returns-in_err-give_bytes-in-Data : goal.returns-in_err-give_bytes-in-Data
-returns-in_err-give_bytes-in-Data c =
+pub returns-in_err-give_bytes : goal.returns-in_err-give_bytes
+returns-in_err-give_bytes c =
     rw (handed_on c.from_residual.result _ c.from_residual.ensures.1)
-    (judging_refused c.loop-at.invariant (record_at (goal.at.returns-in_err-give_bytes-in-Data c).In-Some) c.in-Data.is _ _
-    (rw (part c.loop-at.at c.args.hex.now) at c.in_err-give_bytes-in-Data.ensures))
+    (judging_refused c.loop-at.invariant (record_at (goal.at.returns-in_err-give_bytes c).In-Some) c.in-Data.is _ _
+    (rw (part c.loop-at.at c.args.hex.now) at c.in_err-give_bytes.ensures))
 
 pub loop-at-smaller : goal.loop-at-smaller
 loop-at-smaller c =
@@ -40,18 +40,18 @@ loop-at-smaller c =
 pub loop-at-preserved : goal.loop-at-preserved
 loop-at-preserved c =
     judging_more c.loop-at.invariant (record_at (goal.at.loop-at-preserved c).In-Some) c.in-Data.is _
-    (rw (part c.loop-at.at c.args.hex.now) at c.in_ok-give_bytes-in-Data.ensures)
+    (rw (part c.loop-at.at c.args.hex.now) at c.in_ok-give_bytes.ensures)
 
 -- ---- the end
 
-pub returns-in-End : goal.returns-in-End
-returns-in-End c =
-    judging_last c.loop-at.invariant (record_at (goal.at.returns-in-End c).In-Some) c.in-End.is (omega arith)
+pub returns-then-next-hex : goal.returns-then-next-hex
+returns-then-next-hex c =
+    judging_last c.loop-at.invariant (record_at (goal.at.returns-then-next-hex c).In-Some) c.in_default-found.is (omega arith)
 
-pub returns-in-End-2 : goal.returns-in-End-2
-returns-in-End-2 c =
-    rw c.malformed-in-End-2.ensures
-    (judging_behind c.loop-at.invariant (record_at (goal.at.returns-in-End-2 c).In-Some) c.in-End.is (λ e. omega arith))
+pub returns-in_default-found : goal.returns-in_default-found
+returns-in_default-found c =
+    rw c.malformed-in_default-found.ensures
+    (judging_behind c.loop-at.invariant (record_at (goal.at.returns-in_default-found c).In-Some) c.in_default-found.is (λ e. omega arith))
 
 -- ---- no record is left
 

@@ -8,6 +8,6 @@ use Rattle.hexloader.proofs.words.put_words.Given as goal
 abbrev pub invariant-loop-k : goal.invariant-loop-k
 invariant-loop-k l =
     record {
-      words : Placed (word_at (numbers_of l.places)) l.initial.words l.words l.size l.k;
-      labels : Placed (word_label l.label (numbers_of l.places)) l.initial.labels l.labels l.size l.k;
+      words : Placed (word_at (numbers_of l.places)) l.initial.words l.words l.k;
+      labels : Placed (word_label l.label (numbers_of l.places)) l.initial.labels l.labels l.k;
     }
