@@ -7,7 +7,7 @@ use mathlib.Core.Bool.{Bool, true, false}
 use mathlib.Core.List.{List}
 use lib.ListN.{length}
 use borrow.Author.Tests.{ltb-false}
-use Rattle.causes.specs.Causes.{outcome_of, number_of}
+use Rattle.causes.specs.Causes.{number_of, outcome_of}
 use Rattle.model.specs.Record.{Bank, Machine}
 use Rattle.model.specs.Answer as model
 use Rattle.machine.specs.declared.Answer as answer

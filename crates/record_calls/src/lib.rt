@@ -3,9 +3,9 @@
 #![tactic(auto)]
 
 ghost use Rattle.std.specs.Prelude.{◌≡◌};
-ghost use Rattle.causes.specs.Causes.{outcome_of};
 ghost use Rattle.model.specs.Record.{lent};
 ghost use Rattle.model.specs.Answer.{answer_of};
+ghost use Rattle.causes.specs.Causes.{outcome_of};
 ghost use Rattle.machine_record.specs.Struct.{record_of};
 ghost use Rattle.record_calls.specs.RecordCalls.{is_short, no_record, left, kept_record, record_call};
 
@@ -39,7 +39,7 @@ pub fn no_record() -> u64
 pub fn keep(ended: Result<(), Cause>, machine: Machine, record: &mut [u64])
     ensures { «record».new ≡ kept_record (outcome_of ended) (record_of machine) «record».old }
 {
-    if let Ok(()) = ended {
+    if ended.is_ok() {
         encoder::write(machine, record);
     }
 }
@@ -55,8 +55,6 @@ pub fn advanced(request: Request, record: &mut [u64], words: &mut [u32], labels:
         return no_record();
     };
     let answer = answer_of(machine, request, words, labels);
-    let outcome = answer.outcome;
-    let next = answer.machine;
-    keep(outcome, next, record);
-    number_of(outcome) as u64
+    keep(answer.outcome, answer.machine, record);
+    number_of(answer.outcome) as u64
 }

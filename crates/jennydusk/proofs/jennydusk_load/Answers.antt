@@ -20,5 +20,5 @@ returns c =
     let buffer = c.args.«record».now in
     let memory = lent c.args.words.now c.args.labels.now in
     when_long (untouched buffer memory) span buffer c.is_short.ensures c.if-is_short.false
-    (was_loaded c.args.text.now memory buffer c.load-loaded.result c.load-loaded.ensures
+    (was_loaded c.args.text.now memory buffer c.load-loaded.result _ _ c.load-loaded.ensures
     (c.after_loading.ensures _ _))

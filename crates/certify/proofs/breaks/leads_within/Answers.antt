@@ -1,6 +1,6 @@
 -- `certify::breaks::leads_within` meets its contract.
 -- Assumes nothing.
-use Prim.Native.Nat.{◌≤◌, ◌<◌}
+use Prim.Native.Nat.{◌<◌}
 use mathlib.Core.Path.{◌≡◌, sym, ap, ◌∙◌}
 use native.Mathlib.Omega.{arith}
 use lib.ListN.{length, take}
@@ -9,7 +9,6 @@ use borrow.Author.Rules.{rules}
 use Rattle.std.proofs.lemmas.List.{get_or-take}
 use Rattle.model.specs.Numbers.{most_gates}
 use Rattle.model.specs.WellFormed.{no_gate}
-use Rattle.model.specs.Seen.{within}
 use Rattle.certificates.specs.Certificate.{leads_within}
 use Rattle.certify.proofs.Leads.{leads_none, leads_more, leads_here}
 use Rattle.certify.proofs.breaks.leads_within.Goals as goal

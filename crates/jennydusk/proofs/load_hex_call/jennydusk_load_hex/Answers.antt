@@ -23,5 +23,5 @@ returns c =
     let buffer = given.«record».now in
     let memory = lent given.words.now given.labels.now in
     when_long (untouched_line buffer memory given.line.now) span buffer c.is_short.ensures c.if-is_short.false
-    (was_loaded_hex given.text.now given.hex.now given.label memory buffer c.load_hex-loaded.result
+    (was_loaded_hex given.text.now given.hex.now given.label memory buffer c.load_hex-loaded.result _ _
     c.load_hex-loaded.ensures (c.after_loading_hex.ensures _ _))
