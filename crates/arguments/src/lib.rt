@@ -11,7 +11,8 @@ use reader::read_alone;
 use std::env::FillError;
 use std::rt::Env;
 
-// A word of more bytes than a path may have is taken for none.
+// A word of more bytes than a path may have is taken for none. (A file's name and a line's have this length too, each for a
+// reason of its own.)
 const MOST_BYTES: usize = 4096;
 
 // The number that argument k writes as a text does: one to ten digits without leading zeros, and nothing behind them.

@@ -94,7 +94,8 @@ fn place_of(live: Live, deadline: u32) -> Place
     }
 }
 
-// The steps that are asked for.
+// The steps that are asked for. The lent words and their labels stay two slices, as the callers lend them: they are only
+// handed on here.
 pub(in crate) fn drive(
     fixed: Fixed,
     task: Task,

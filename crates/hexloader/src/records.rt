@@ -59,6 +59,7 @@ pub(in crate) fn judge_records(hex: &[u8], places: &mut [Option<u8>]) -> Result<
 {
     let mut at: usize = 0;
     let mut line: u64 = 1;
+    // Each turn goes on behind the record that was read, wherever that is: no count and no iterator knows it beforehand.
     while at < hex.len() {
         let rest = &hex[at..];
         let Some(read) = read_record(rest) else {

@@ -13,7 +13,7 @@ ghost use Rattle.labels.specs.Label.{restrictions, lacking, flows, join, meet, r
 // A label as a number.
 pub type Bits = u8;
 
-#[derive(Clone, Copy)]
+#[derive(Clone, Copy, PartialEq, Eq)]
 pub struct Label(pub Bits);
 
 // Every number below this one is a label.
@@ -114,13 +114,13 @@ impl Label {
     pub fn is_lowest(self) -> bool
         ensures { result ≡ eqb self.0 lowest }
     {
-        self.0 == Label::LOWEST.0
+        self == Label::LOWEST
     }
 
     // Whether this is the highest label.
     pub fn is_highest(self) -> bool
         ensures { result ≡ eqb self.0 highest }
     {
-        self.0 == Label::HIGHEST.0
+        self == Label::HIGHEST
     }
 }

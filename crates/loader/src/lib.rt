@@ -102,6 +102,7 @@ fn judge_lines(
     let mut last = BEHIND_HEADER;
     let mut at = start;
     let mut number: u32 = 2;
+    // Each turn goes on behind the line that was read, wherever that is: no count and no iterator knows it beforehand.
     while at < text.len() {
         let read = read_line(&text[at..]);
         let line = read.line;

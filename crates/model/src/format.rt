@@ -18,7 +18,8 @@ pub struct Number {
     pub length: usize,
 }
 
-// A line by its letter, with its numbers in their order; or one that is malformed.
+// A line by its letter, with its numbers in their order; or one that is malformed, which is a line of the text too (`lines`)
+// and is refused in its turn (`line_tests`).
 #[derive(Clone, Copy)]
 pub enum Line {
     M(u64, u64, u64, u64, u64, u64),
@@ -28,7 +29,7 @@ pub enum Line {
     Malformed,
 }
 
-// A line, and how many bytes it takes: where the next one begins.
+// A line, and how many bytes it takes: where the next one begins, as the line reader answers whatever it has read.
 #[derive(Clone, Copy)]
 pub struct Read {
     pub line: Line,

@@ -50,7 +50,8 @@ pub struct Fixed {
 }
 
 // What a step reads and changes besides registers and memory. `end` is 0 running, 1 halted, 2 clock spent, 3 stalled;
-// `why` is 1 to 3 where it stalled.
+// `why` is 1 to 3 where it stalled. Both are numbers and no enums: a record from outside may have any byte there, which
+// `well_formed` refuses.
 #[derive(Clone, Copy)]
 pub struct Control {
     pub pc: u32,

@@ -64,7 +64,8 @@ fn entry_in_range(bound: u32, k: u64, label: u64, value: u64) -> bool
     (k < bound as u64) & (label < LABEL_COUNT) & (value < VALUE_COUNT)
 }
 
-// The place of a kind in the order of kinds.
+// The place of a kind in the order of kinds, by its number as in the definition (`rank`): a derived order would hide it in
+// the order of the cases.
 fn rank(kind: Kind) -> u8
     ensures { result ≡ rank kind }
 {

@@ -66,7 +66,8 @@ fn put_field(out: &mut [u8], n: u64) -> usize
     1 + put_number(&mut out[1..], n)
 }
 
-// Writes a number, its last digit first.
+// Writes a number, its last digit first. By hand: the library writes a number to a stream of text and not to a slice, and a
+// crate that does would have to be believed too.
 fn put_number(out: &mut [u8], n: u64) -> usize
     requires { length (decimal n) ≤ length out.old }
     ensures { Wrote (decimal n) out.old result out.new }

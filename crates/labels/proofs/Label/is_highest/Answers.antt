@@ -1,9 +1,7 @@
 -- `labels::Label::is_highest` meets its contract: the constant is the definition's number.
 -- Assumes nothing.
-use mathlib.Core.Path.{refl}
-use Rattle.principals.specs.Principals.{label, highest}
+use Rattle.labels.proofs.Constants.{highest_number}
 use Rattle.labels.proofs.Label.is_highest.Goals as goal
 
 pub returns : goal.returns
-unfolding label highest
-returns c = refl
+returns c = rw highest_number c.eq.ensures

@@ -1,9 +1,7 @@
 -- `labels::Label::is_lowest` meets its contract: the constant is the definition's number.
 -- Assumes nothing.
-use mathlib.Core.Path.{refl}
-use Rattle.principals.specs.Principals.{label, lowest}
+use Rattle.labels.proofs.Constants.{lowest_number}
 use Rattle.labels.proofs.Label.is_lowest.Goals as goal
 
 pub returns : goal.returns
-unfolding label lowest
-returns c = refl
+returns c = rw lowest_number c.eq.ensures
