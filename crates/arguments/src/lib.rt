@@ -7,6 +7,7 @@ ghost use Rattle.reader.specs.Alone.{number_alone};
 ghost use Rattle.arguments.specs.Written.{label_alone};
 
 use labels::{Bits, LABEL_COUNT};
+use model::format::Number;
 use reader::read_alone;
 use std::env::FillError;
 use std::rt::Env;
@@ -17,7 +18,7 @@ const MOST_BYTES: usize = 4096;
 
 // The number that argument k writes as a text does: one to ten digits without leading zeros, and nothing behind them.
 #[tactic(auto, using(crate::proofs::Words::no_number))]
-pub fn number_argument<E: Env>(env: &E, k: usize) -> Option<u64>
+pub fn number_argument<E: Env>(env: &E, k: usize) -> Option<Number>
     ensures { (word : List ℕ) × (result ≡ number_alone word) }
 {
     let mut word = [0u8; MOST_BYTES];
@@ -29,7 +30,7 @@ pub fn number_argument<E: Env>(env: &E, k: usize) -> Option<u64>
 pub fn label_argument<E: Env>(env: &E, k: usize) -> Option<Bits>
     ensures { (word : List ℕ) × (result ≡ label_alone word) }
 {
-    let value = number_argument(env, k)?;
+    let value = number_argument(env, k)?.value;
     (value < LABEL_COUNT as u64).then(|| value as Bits)
 }
 

@@ -6,9 +6,9 @@ use Rattle.model.specs.Text.{number}
 
 -- What was read of a word of so many bytes is all of it. A number's bytes count the comma before a field, which no word
 -- has.
-abbrev pub alone : ℕ → Number → Option ℕ
-alone size n = cond (leb n.length size) None (Some n.value)
+abbrev pub alone : ℕ → Number → Option Number
+alone size n = cond (leb n.length size) None (Some n)
 
 -- The number that a word is.
-abbrev pub number_alone : List ℕ → Option ℕ
+abbrev pub number_alone : List ℕ → Option Number
 number_alone word = option_and_then (alone (length word)) (number word)

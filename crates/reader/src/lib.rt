@@ -20,11 +20,11 @@ const MALFORMED: Read = Read {
 // ---- a number
 
 // The number that a word is, with nothing behind it, as the programs' arguments are written.
-pub fn read_alone(word: &[u8]) -> Option<u64>
+pub fn read_alone(word: &[u8]) -> Option<Number>
     ensures { result ≡ number_alone word.now }
 {
     let number = read_number(word)?;
-    (word.len() < number.length).then_some(number.value)
+    (word.len() < number.length).then_some(number)
 }
 
 // The number that a text begins with: one to ten digits without leading zeros.

@@ -24,7 +24,8 @@ pub const MOST_WORDS: usize = numbers::MOST_WORDS as usize;
 // More bytes than any listing has.
 pub const OUTPUT: usize = 65536;
 
-// A view that is refused: why, and the line of a text that was refused, or the limit where the tick is above it, or 0.
+// A view that is refused: why, and the line of a text that was refused, or the limit where the tick is above it, or 0. A
+// type of its own beside a load's refusal, since its number isn't always a line.
 #[derive(Clone, Copy)]
 pub struct Refused {
     pub cause: Cause,

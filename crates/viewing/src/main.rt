@@ -14,7 +14,7 @@ fn read_arguments(env: &impl Env) -> Option<(Bits, u64)> {
     if !has_argument(env, 2) || has_argument(env, 3) {
         return None;
     }
-    Some((label_argument(env, 1)?, number_argument(env, 2)?))
+    Some((label_argument(env, 1)?, number_argument(env, 2)?.value))
 }
 
 fn main(rt: HostRuntime) {
