@@ -14,12 +14,12 @@ use breaks::{break_of, leads_within};
 use engine::{Task, advance};
 use header::Refusal;
 use labels::Bits;
-use loader::load;
+use loader::{MOST_WORDS, load};
 use machine_record::Machine;
-use model::{Control, Registers, numbers};
+use model::{Control, Registers};
 use pacing::Pace;
 use release::{has_time, relabelling, releases};
-use writer::write_line;
+use writer::{X, write_line};
 
 mod breaks;
 mod release;
@@ -41,13 +41,8 @@ pub struct Break {
     pub place: u32,
 }
 
-// The letters of a certificate's line and of a refusal's.
+// The letter of a certificate's line.
 const V: u8 = b'V';
-
-const X: u8 = b'X';
-
-// The most words that a machine can have.
-const MOST_WORDS: usize = numbers::MOST_WORDS as usize;
 
 // More bytes than either line has.
 pub const OUTPUT: usize = 128;

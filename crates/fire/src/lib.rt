@@ -13,21 +13,13 @@ ghost use Rattle.fire.specs.InTurn.{refusing, in_turn};
 
 use header::Refusal;
 use labels::Bits;
+pub use loader::MOST_WORDS;
 use loader::load;
 use machine::run;
 use machine_record::Machine;
-use model::numbers;
+pub use printer::OUTPUT;
 use printer::print;
-use writer::write_line;
-
-// The letter of a refusal's line.
-const X: u8 = b'X';
-
-// The most words that a machine can have.
-pub const MOST_WORDS: usize = numbers::MOST_WORDS as usize;
-
-// More bytes than any listing has.
-pub const OUTPUT: usize = 65536;
+use writer::{X, write_line};
 
 // Fires a text and gives how many bytes of the output it has written. Output that is too short is left as it is, with 0
 // bytes. The memory may hold anything: what lies below the text's size is set anew, the rest is left.

@@ -21,7 +21,7 @@ use reader::read_line;
 use verdicts::{BEHIND_HEADER, last_of, line_verdict};
 
 // The most words that a machine can have.
-const MOST_WORDS: usize = numbers::MOST_WORDS as usize;
+pub const MOST_WORDS: usize = numbers::MOST_WORDS as usize;
 
 // One more gate.
 fn with_gate(machine: Machine, pc: u64, p: u64, t: u64) -> Machine

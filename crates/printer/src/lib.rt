@@ -30,10 +30,13 @@ const R: u8 = b'R';
 
 const W: u8 = b'W';
 
-// The kinds of a call on an F line.
+// The kinds of a call on an F line: numbers of the listing, which an enum would only be turned into.
 const GATE: u64 = 1;
 
 const UPCALL: u64 = 2;
+
+// More bytes than any listing has.
+pub const OUTPUT: usize = 65536;
 
 // How many bytes were written, or why none; and the record as it was given.
 #[derive(Clone, Copy)]

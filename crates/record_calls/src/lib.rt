@@ -18,7 +18,8 @@ use model::Request;
 // How many words a record takes.
 pub const RECORD_SPAN: usize = encoder::SPAN;
 
-// The answer where a buffer is shorter than the record or the certificate that it is lent for.
+// The answer where a buffer is shorter than the record or the certificate that it is lent for: a number, as programs in other
+// languages get every answer.
 pub const SHORT_BUFFER: u64 = 255;
 
 // Whether a buffer is shorter than so many words. Each call tries this before everything else.

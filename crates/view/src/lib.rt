@@ -9,20 +9,12 @@ ghost use Rattle.view.specs.Viewed.{viewed_of};
 
 use causes::Cause;
 use labels::Bits;
+pub use loader::MOST_WORDS;
 use loader::load;
 use machine::run_to;
-use model::numbers;
+pub use printer::OUTPUT;
 use printer::print_for;
-use writer::write_line;
-
-// The letter of a refusal's line.
-const X: u8 = b'X';
-
-// The most words that a machine can have.
-pub const MOST_WORDS: usize = numbers::MOST_WORDS as usize;
-
-// More bytes than any listing has.
-pub const OUTPUT: usize = 65536;
+use writer::{X, write_line};
 
 // A view that is refused: why, and the line of a text that was refused, or the limit where the tick is above it, or 0. A
 // type of its own beside a load's refusal, since its number isn't always a line.

@@ -10,6 +10,9 @@ ghost use Rattle.writer.specs.Inner.Wrote.{Wrote};
 
 use model::format::{COMMA, LF, MOST_FIELDS};
 
+// The letter of a refusal's line, which the programs print in place of what they can't print.
+pub const X: u8 = b'X';
+
 // Writes a line and gives how many bytes it takes. Where the rest is too short for it nothing is written, and the answer
 // is the same: so a line is measured by lending an empty rest. More numbers than a line has are no line, of 0 bytes.
 // That is 0 and not None, since callers add the lengths up: none of them hands in so many, and each would need an arm.
