@@ -1,7 +1,7 @@
 -- The records read one after the other: what holds at each, while it is judged and its bytes are given.
 -- Assumes nothing.
 use Prim.Native.Nat.{ℕ, ◌+◌, ◌-◌, ◌*◌, ◌≤◌, ◌<◌}
-use mathlib.Core.Path.{◌≡◌, refl, sym, ap, subst, ◌∙◌}
+use mathlib.Core.Path.{◌≡◌, refl, sym, ap, ◌∙◌}
 use mathlib.Core.List.{List, [], ◌∷◌}
 use native.Mathlib.Omega.{arith}
 use lib.ListN.{length, take, drop, length-take, length-drop}
@@ -17,28 +17,25 @@ use Rattle.texts.proofs.Text.{part}
 use Rattle.texts.proofs.Hex.{sized, data_length}
 use Rattle.texts.proofs.Records.{judge_first_lem, no_records, some_records}
 use Rattle.header.specs.declared.Refusal.{Refusal}
+use Rattle.hexreader.specs.declared.Found.{Found}
 use Rattle.hexreader.specs.declared.Found.TheVariants.{Data, End}
 use Rattle.hexreader.specs.declared.Read.{Read}
-use Rattle.hexreader.specs.Reading.{record_in, read_in, unless_bad}
-use Rattle.hexreader.proofs.Bytes.{read_some, read_none}
+use Rattle.hexreader.specs.Reading.{record_in, read_in}
 
 -- ---- a record that was read
 
 -- The record read at `at` is the first of the rest of the text.
 pub record At (text : List ℕ) (at : ℕ) (r : Read) : Type 0 where
   pub more : 0 < length (drop at text)
-  pub reads : read_record (drop at text) ≡ record { found = record_in (drop at text) (Some r.found); next = r.next }
+  pub reads : read_record (drop at text) ≡ read_in (drop at text) r
   pub within : at + r.next ≤ length text
   pub behind : drop r.next (drop at text) ≡ drop (at + r.next) text
 
 -- The reader is lent the part of the text from `at` on.
 pub read_at : (text : List ℕ) (at : ℕ) (r : Read) → at < length text
-    → read_in (take (length text - at) (drop at text)) (Some r) ≡ unless_bad (read_record (take (length text - at) (drop at text)))
-    → At text at r
+    → read_in (take (length text - at) (drop at text)) r ≡ read_record (take (length text - at) (drop at text)) → At text at r
 read_at text at r h e =
-    let q : read_record (drop at text) ≡ record { found = record_in (drop at text) (Some r.found); next = r.next } =
-    read_some (read_record (drop at text)) _
-    (subst (λ (xs : List ℕ). read_in xs (Some r) ≡ unless_bad (read_record xs)) (part at text) e) in
+    let q : read_record (drop at text) ≡ read_in (drop at text) r = sym (rw (part at text) at e) in
     let w : r.next ≤ length (drop at text) = rw q at (sized (drop at text)).within in
     record {
       more = omega (arith, length-drop at text);
@@ -47,18 +44,22 @@ read_at text at r h e =
       behind = drop-drop r.next at text;
     }
 
-module _ {text : List ℕ} {at : ℕ} {r : Read} (a : At text at r) {address count : ℕ} (e : r.found ≡ Data address count) where
+-- What was found, by its kind.
+pub found_is : (r : Read) (f g : Found) → r.found ≡ Some f → f ≡ g → r.found ≡ Some g
+found_is r f g e k = e ∙ ap Some k
+
+module _ {text : List ℕ} {at : ℕ} {r : Read} (a : At text at r) {address count : ℕ} (e : r.found ≡ Some (Data address count)) where
   -- What it gives.
   abbrev data_of : List ℕ
   data_of = take count (drop 4 (bytes (drop 1 (drop at text))))
 
   found_data : (read_record (drop at text)).found ≡ hex.Data address data_of
-  found_data = ap (λ (z : HexRead). z.found) a.reads ∙ ap (λ (f : _). record_in (drop at text) (Some f)) e
+  found_data = ap (λ (z : HexRead). z.found) a.reads ∙ ap (record_in (drop at text)) e
 
   -- A record with bytes takes two bytes of the text at least.
   pub data_moves : 2 ≤ r.next
   data_moves =
-      rw a.reads at (sized (drop at text)).moves (λ z. let y : ◌≡◌ {A = ℕ} 0 1 = cc (ap (λ (f : _). record_in (drop at text) (Some f)) e) in omega arith)
+      rw a.reads at (sized (drop at text)).moves (λ z. let y : ◌≡◌ {A = ℕ} 0 1 = cc (ap (record_in (drop at text)) e) in omega arith)
 
   -- It has as many as it says.
   pub data_fits : 4 + count ≤ length (bytes (drop 1 (drop at text)))
@@ -84,29 +85,25 @@ module _ {text before places : List ℕ} {at n : ℕ} (j : Judging text before p
   unfolding judge_records
   judging_end h = rw (no_records (drop at text) (omega (arith, length-drop at text))) at j.same
 
-  -- The next one is bad.
-  pub judging_bad : at < length text → None ≡ unless_bad (read_record (take (length text - at) (drop at text)))
-      → refuse MalformedRecord n ≡ judge_records 1 (records text) before
-  unfolding judge_records
-  judging_bad h e =
-      let bad : (read_record (drop at text)).found ≡ hex.Bad = read_none (read_record (drop at text)) (rw (part at text) at e) in
-      ap (λ (f : HexRecord). judge_records n (f ∷ records (drop (read_record (drop at text)).next (drop at text))) places) (sym bad)
-      ∙ sym (judge_first_lem n (drop at text) places (omega (arith, length-drop at text)))
-      ∙ j.same
-
   module _ {r : Read} (a : At text at r) where
     -- The verdict goes by the first of them.
-    here : judge_records n (record_in (drop at text) (Some r.found) ∷ records (drop (at + r.next) text)) places
+    here : judge_records n (record_in (drop at text) r.found ∷ records (drop (at + r.next) text)) places
         ≡ judge_records 1 (records text) before
     here =
-        ap (λ (xs : List ℕ). judge_records n (record_in (drop at text) (Some r.found) ∷ records xs) places) (sym a.behind)
+        ap (λ (xs : List ℕ). judge_records n (record_in (drop at text) r.found ∷ records xs) places) (sym a.behind)
         ∙ ap (λ (z : HexRead). judge_records n (z.found ∷ records (drop z.next (drop at text))) places) (sym a.reads)
         ∙ sym (judge_first_lem n (drop at text) places a.more)
         ∙ j.same
 
-    module _ (e : r.found ≡ End) where
+    -- It is bad.
+    pub judging_bad : r.found ≡ None → refuse MalformedRecord n ≡ judge_records 1 (records text) before
+    unfolding judge_records
+    judging_bad e =
+        ap (λ (f : _). judge_records n (record_in (drop at text) f ∷ records (drop (at + r.next) text)) places) (sym e) ∙ here
+
+    module _ (e : r.found ≡ Some End) where
       end_here : judge_records n (hex.End ∷ records (drop (at + r.next) text)) places ≡ judge_records 1 (records text) before
-      end_here = ap (λ (f : _). judge_records n (record_in (drop at text) (Some f) ∷ records (drop (at + r.next) text)) places) (sym e) ∙ here
+      end_here = ap (λ (f : _). judge_records n (record_in (drop at text) f ∷ records (drop (at + r.next) text)) places) (sym e) ∙ here
 
       -- It is the end, and the last.
       pub judging_last : at + r.next ≡ length text → accept places ≡ judge_records 1 (records text) before
@@ -126,14 +123,14 @@ module _ {text before places : List ℕ} {at n : ℕ} (j : Judging text before p
           behind_end [] h = absurd (h refl)
           behind_end (z ∷ rs) h = refl
 
-    module _ {address count : ℕ} (e : r.found ≡ Data address count) where
+    module _ {address count : ℕ} (e : r.found ≡ Some (Data address count)) where
       -- The verdict goes by the bytes that it gives.
       by_bytes : (v : Verdict (List ℕ)) → v ≡ give n address (data_of a e) places
           → v and_then (λ more. judge_records (n + 1) (records (drop (at + r.next) text)) more) ≡ judge_records 1 (records text) before
       unfolding judge_records
       by_bytes v g =
           ap (λ (z : Verdict (List ℕ)). z and_then (λ more. judge_records (n + 1) (records (drop (at + r.next) text)) more)) g
-          ∙ ap (λ (f : _). judge_records n (record_in (drop at text) (Some f) ∷ records (drop (at + r.next) text)) places) (sym e)
+          ∙ ap (λ (f : _). judge_records n (record_in (drop at text) f ∷ records (drop (at + r.next) text)) places) (sym e)
           ∙ here
 
       -- They are given: the records behind it are to be judged.

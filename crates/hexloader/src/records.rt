@@ -62,17 +62,14 @@ pub(in crate) fn judge_records(hex: &[u8], places: &mut [Option<u8>]) -> Result<
     // Each turn goes on behind the record that was read, wherever that is: no count and no iterator knows it beforehand.
     while at < hex.len() {
         let rest = &hex[at..];
-        let Some(read) = read_record(rest) else {
-            return Err(malformed(line));
-        };
+        let read = read_record(rest);
         let next = at + read.next;
-        let Found::Data { address, count } = read.found else {
-            if next == hex.len() {
-                return Ok(());
-            }
-            return Err(malformed(line + 1));
-        };
-        give_bytes(rest, address, count, line, places)?;
+        match read.found {
+            Some(Found::Data { address, count }) => give_bytes(rest, address, count, line, places)?,
+            Some(Found::End) if next == hex.len() => return Ok(()),
+            Some(Found::End) => return Err(malformed(line + 1)),
+            None => return Err(malformed(line)),
+        }
         at = next;
         line += 1;
     }

@@ -1,7 +1,7 @@
--- Numbers below a limit, as the bytes that a text begins with are; and what the model read, where that is no bad record.
+-- Numbers below a limit, as the bytes that a text begins with are.
 -- Assumes nothing.
 use Prim.Native.Nat.{ℕ, zero, suc, ◌≤◌, ◌<◌}
-use mathlib.Core.Path.{◌≡◌, refl, sym}
+use mathlib.Core.Path.{◌≡◌, sym}
 use mathlib.Core.Logic.{⊎_elim}
 use mathlib.Core.Bool.{true, false}
 use mathlib.Core.List.{List, [], ◌∷◌}
@@ -10,12 +10,10 @@ use lib.Dec.{ltb, lit<}
 use lib.ListN.{get_or}
 use borrow.Author.Tests.{ltb-true, ltb-false, lt-ltb, le-ltb}
 use Rattle.std.specs.Prelude.{Some, None}
-use Rattle.std.proofs.lemmas.Option.{cond_some, none-some, same_Some}
-use Rattle.model.specs.Hex.{byte_of, bytes, HexRecord, HexRead, Data, End, Bad}
+use Rattle.std.proofs.lemmas.Option.{cond_some, none-some}
+use Rattle.model.specs.Hex.{byte_of, bytes}
 use Rattle.model.proofs.Truth.{choice, either}
-use Rattle.hexreader.specs.Reading.{below, found_of, unless_bad}
-
--- ---- a number below a limit
+use Rattle.hexreader.specs.Reading.{below}
 
 -- It is the model's.
 pub below_some : (limit n b : ℕ) → Some b ≡ below limit n → (n ≡ b) × (b < limit)
@@ -42,23 +40,3 @@ bytes_small (high ∷ low ∷ xs) zero =
     choice (λ (r : List ℕ). get_or r 0 0 < 256) (ltb (byte_of high low) 256) _ _ (λ e. ltb-true _ _ e) (λ e. lit< tt)
 bytes_small (high ∷ low ∷ xs) (suc k) =
     choice (λ (r : List ℕ). get_or r (suc k) 0 < 256) (ltb (byte_of high low) 256) _ _ (λ e. bytes_small xs k) (λ e. lit< tt)
-
--- ---- what was read
-
--- No bad record.
-pub read_some : (h r : HexRead) → Some r ≡ unless_bad h → h ≡ r
-read_some h r e = told h.found e
-  where
-    told : (found : HexRecord) → Some r ≡ found_of found h.next → ◌≡◌ {A = HexRead} (record { found = found; next = h.next }) r
-    told (Data at bs) e = sym (same_Some _ _ e)
-    told End e = sym (same_Some _ _ e)
-    told Bad e = absurd (none-some r (sym e))
-
--- A bad one.
-pub read_none : (h : HexRead) → None ≡ unless_bad h → h.found ≡ Bad
-read_none h e = told h.found e
-  where
-    told : (found : HexRecord) → None ≡ found_of found h.next → found ≡ Bad
-    told (Data at bs) e = absurd (none-some _ e)
-    told End e = absurd (none-some _ e)
-    told Bad e = refl

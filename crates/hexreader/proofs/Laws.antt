@@ -3,27 +3,27 @@
 use Prim.Native.Nat.{ℕ, zero, suc, ◌+◌, ◌-◌, ◌*◌, ◌%◌, ◌≤◌, ◌<◌}
 use mathlib.Core.Path.{◌≡◌, refl, sym, ap, ◌∙◌}
 use mathlib.Core.Logic.{⊎_elim}
-use mathlib.Core.Bool.{true, false, ◌&&◌, cond}
+use mathlib.Core.Bool.{Bool, true, false, ◌&&◌, cond}
 use mathlib.Core.List.{List, [], ◌∷◌}
 use native.Mathlib.Nat.{mod-lt, mod-add-mod}
 use native.Mathlib.Omega.{arith}
 use lib.Dec.{leb, ltb, eqb, lit<}
 use lib.ListN.{length, take, drop, get_or, length-drop}
 use borrow.Author.Tests.{ltb-true, ltb-false, lt-ltb, le-ltb, lt-leb, le-leb, eqb-true, ne_eqb}
-use Rattle.std.specs.Prelude.{Some, None}
+use Rattle.std.specs.Prelude.{Option, Some, None}
 use Rattle.std.proofs.lemmas.Option.{cond_some, none-some, same_Some}
 use Rattle.std.specs.Char.{digit_value}
 use Rattle.model.specs.Text.{is_digit}
-use Rattle.model.specs.Hex.{digit_of, byte_of, bytes, sum, HexRecord, Data, End, Bad, is_whole, address_of, record_of, line_end, ended, read_record}
+use Rattle.model.specs.Hex.{digit_of, byte_of, bytes, sum, HexRecord, Data, End, Bad, HexRead, is_whole, address_of, record_of, line_end, bad_record, ended, read_record}
 use Rattle.model.proofs.Truth.{choice, either, and_iff}
 use Rattle.texts.proofs.Text.{part}
 use Rattle.texts.proofs.Hex.{byte_within, bytes_more, bytes_end, bytes_length, byte_written, line_within}
 use Rattle.hexreader.specs.declared.Found.{Found}
-use Rattle.hexreader.specs.declared.Found.TheVariants as variants
 use Rattle.hexreader.specs.declared.Total.{Total}
-use Rattle.hexreader.specs.Reading.{below, written_at, record_in, read_in, found_of, unless_bad}
+use Rattle.hexreader.specs.Reading.{below, written_at, record_in, read_in}
 use Rattle.hexreader.proofs.Bytes.{below_some, below_none, some_below, none_below, bytes_small}
-use Rattle.hexreader.specs.Inner.Total.{IsTotal, count_whole, above_none}
+use Rattle.hexreader.specs.Inner.Total.{IsTotal, count_whole}
+use Rattle.hexreader.specs.Inner.Ends.{above_none, end_behind, record_end}
 
 -- ---- a byte
 
@@ -208,25 +208,18 @@ above_zero : (n : ℕ) → None ≡ above_none n → n ≡ 0
 above_zero zero e = refl
 above_zero (suc n) e = absurd (none-some (suc n) e)
 
--- It is bad, where the colon is missing.
-pub no_colon : (text : List ℕ) → (get_or text 0 0 ≡ 58 → ⊥) → None ≡ unless_bad (read_record text)
-unfolding read_record
+-- It has no end, where the colon is missing.
+pub no_colon : (text : List ℕ) → (get_or text 0 0 ≡ 58 → ⊥) → None ≡ record_end text
 no_colon text h = rw (ne_eqb (get_or text 0 0) 58 h)
 
 -- Its bytes aren't as many as it says, or their sum isn't 0.
-pub not_full : (text : List ℕ) → get_or text 0 0 ≡ 58 → None ≡ count_whole (bytes (drop 1 text))
-    → None ≡ unless_bad (read_record text)
-unfolding read_record
+pub not_full : (text : List ℕ) → get_or text 0 0 ≡ 58 → None ≡ count_whole (bytes (drop 1 text)) → None ≡ record_end text
 not_full text c e =
     ⊎_elim (λ (w : is_whole (bytes (drop 1 text)) ≡ true). absurd (none-some (length (bytes (drop 1 text))) (rw w at e)))
     (λ (w : is_whole (bytes (drop 1 text)) ≡ false). rw (c, w))
     (either (is_whole (bytes (drop 1 text))))
 
 module _ (text : List ℕ) (n : ℕ) (w : Some n ≡ count_whole (bytes (drop 1 text))) where
-  -- It has five bytes at least.
-  pub frame_within : 5 ≤ length (bytes (drop 1 text))
-  frame_within = let h = whole_frame (bytes (drop 1 text)) n w in omega (arith, h.1, h.2)
-
   -- Its digits lie in the text.
   pub digits_within : 1 + 2 * n ≤ length text
   digits_within =
@@ -245,39 +238,55 @@ module _ (text : List ℕ) (n : ℕ) (w : Some n ≡ count_whole (bytes (drop 1 
 
   module _ (c : get_or text 0 0 ≡ 58) where
     -- It goes by the end of its line.
-    ends : read_record text ≡ ended (record_of (bytes (drop 1 text))) (1 + 2 * n) (line_end rest)
-    unfolding read_record
+    ends : record_end text ≡ end_behind (1 + 2 * n) (line_end rest)
     ends = let h = whole_frame (bytes (drop 1 text)) n w in rw (c, h.0, h.1, part (1 + 2 * n) text)
 
     -- Its line doesn't end.
-    pub read_open : None ≡ above_none (line_end rest) → None ≡ unless_bad (read_record text)
-    read_open z =
-        sym (ap unless_bad (ends ∙ ap (ended (record_of (bytes (drop 1 text))) (1 + 2 * n)) (above_zero (line_end rest) z)))
+    pub open_line : None ≡ above_none (line_end rest) → None ≡ record_end text
+    open_line z = sym (ends ∙ ap (end_behind (1 + 2 * n)) (above_zero (line_end rest) z))
 
-    closed : (h : HexRecord) (k m : ℕ) → 0 < k → unless_bad (ended h m k) ≡ found_of h (m + k)
-    closed h zero m g = absurd (omega arith)
-    closed h (suc k) m g = refl
+    -- Its line ends.
+    pub closed_line : (end : ℕ) → Some end ≡ above_none (line_end rest) → Some (1 + 2 * n + end) ≡ record_end text
+    closed_line end l =
+        let k = above_some (line_end rest) end l in sym (ends ∙ ap (end_behind (1 + 2 * n)) k.0 ∙ closed end k.1)
+      where
+        closed : (k : ℕ) → 0 < k → end_behind (1 + 2 * n) k ≡ Some (1 + 2 * n + k)
+        closed zero g = absurd (omega arith)
+        closed (suc k) g = refl
 
-    module _ (end : ℕ) (l : Some end ≡ above_none (line_end rest)) where
-      by_type : unless_bad (read_record text) ≡ found_of (record_of (bytes (drop 1 text))) (1 + 2 * n + end)
-      by_type =
-          let k = above_some (line_end rest) end l in
-          ap unless_bad (ends ∙ ap (ended (record_of (bytes (drop 1 text))) (1 + 2 * n)) k.0)
-          ∙ closed (record_of (bytes (drop 1 text))) end (1 + 2 * n) k.1
+-- One that ends is read by its type; any other is bad.
+abbrev read_to : HexRecord → Option ℕ → HexRead
+read_to found None = bad_record
+read_to found (Some n) = record { found = found; next = n }
 
-      -- It has another type.
-      pub read_bad : Bad ≡ record_of (bytes (drop 1 text)) → None ≡ unless_bad (read_record text)
-      read_bad f = sym (by_type ∙ rw (← f))
+reads : (text : List ℕ) → read_to (record_of (bytes (drop 1 text))) (record_end text) ≡ read_record text
+unfolding read_record
+reads text = same (record_of (bytes (drop 1 text))) _ _ _
+  where
+    same : (found : HexRecord) (begun : Bool) (n k : ℕ)
+        → read_to found (cond begun (end_behind n k) None) ≡ cond begun (ended found n k) bad_record
+    same found false n k = refl
+    same found true n zero = refl
+    same found true n (suc k) = refl
 
-      -- Its line ends.
-      pub read_closed : (found : Found) → record_in text (Some found) ≡ record_of (bytes (drop 1 text))
-          → read_in text (Some (record { found = found; next = 1 + 2 * n + end })) ≡ unless_bad (read_record text)
-      read_closed found f = sym (by_type ∙ ap (λ (r : HexRecord). found_of r (1 + 2 * n + end)) (sym f) ∙ told found)
-        where
-          told : (found : Found) → found_of (record_in text (Some found)) (1 + 2 * n + end)
-              ≡ read_in text (Some (record { found = found; next = 1 + 2 * n + end }))
-          told (variants.Data address count) = refl
-          told variants.End = refl
+pub read_bad : (text : List ℕ) → None ≡ record_end text → bad_record ≡ read_record text
+read_bad text e = ap (read_to (record_of (bytes (drop 1 text)))) e ∙ reads text
+
+module _ (text : List ℕ) (n : ℕ) (e : Some n ≡ record_end text) where
+  -- It has five bytes at least.
+  pub frame_within : 5 ≤ length (bytes (drop 1 text))
+  frame_within =
+      ⊎_elim
+      (λ (b : (eqb (get_or text 0 0) 58 && is_whole (bytes (drop 1 text))) ≡ true).
+      let w = ((and_iff (eqb (get_or text 0 0) 58) (is_whole (bytes (drop 1 text)))).0 b).1 in
+      (whole_frame (bytes (drop 1 text)) (length (bytes (drop 1 text))) (rw w)).2)
+      (λ (b : (eqb (get_or text 0 0) 58 && is_whole (bytes (drop 1 text))) ≡ false). let z : Some n ≡ None = rw b at e in absurd (none-some n (sym z)))
+      (either (eqb (get_or text 0 0) 58 && is_whole (bytes (drop 1 text))))
+
+  pub read_whole : (found : Option Found) → record_in text found ≡ record_of (bytes (drop 1 text))
+      → read_in text (record { found = found; next = n }) ≡ read_record text
+  read_whole found f =
+      ap (λ (h : HexRecord). read_to h (Some n)) f ∙ ap (read_to (record_of (bytes (drop 1 text)))) e ∙ reads text
 
 -- ---- a digit
 

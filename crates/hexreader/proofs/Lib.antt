@@ -1,3 +1,3 @@
--- What the functions keep and their answers; and laws of bytes and of what was read, which other crates may cite.
+-- What the functions keep and their answers; and laws of bytes, which other crates may cite.
 mod Laws
 pub mod Bytes

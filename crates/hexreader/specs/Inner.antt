@@ -1,2 +1,3 @@
 -- What the contracts of inner functions cite, which the public promises don't.
 pub mod Total
+pub mod Ends

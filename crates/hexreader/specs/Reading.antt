@@ -23,16 +23,6 @@ record_in text (Some (Data address count)) = hex.Data address (take count (drop 
 record_in text (Some End) = hex.End
 record_in text None = hex.Bad
 
--- The same with the bytes of the text that it takes; of a bad record there are none.
-abbrev pub read_in : List ℕ → Option Read → Option HexRead
-read_in text (Some r) = Some (record { found = record_in text (Some r.found); next = r.next })
-read_in text None = None
-
--- What the model reads, unless that is a bad record.
-abbrev pub found_of : HexRecord → ℕ → Option HexRead
-found_of (hex.Data at bs) n = Some (record { found = hex.Data at bs; next = n })
-found_of hex.End n = Some (record { found = hex.End; next = n })
-found_of hex.Bad n = None
-
-abbrev pub unless_bad : HexRead → Option HexRead
-unless_bad r = found_of r.found r.next
+-- The same with the bytes of the text that it takes.
+abbrev pub read_in : List ℕ → Read → HexRead
+read_in text r = record { found = record_in text r.found; next = r.next }

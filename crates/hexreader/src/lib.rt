@@ -6,8 +6,9 @@
 ghost use Rattle.std.specs.Prelude.{◌≡◌, ◌≤◌, length, drop};
 ghost use Rattle.model.specs.Numbers.{no_digit, no_byte, record_frame};
 ghost use Rattle.model.specs.Hex.{digit_of, byte_of, bytes, record_of, line_end, read_record};
-ghost use Rattle.hexreader.specs.Reading.{below, written_at, record_in, read_in, unless_bad};
-ghost use Rattle.hexreader.specs.Inner.Total.{IsTotal, count_whole, above_none};
+ghost use Rattle.hexreader.specs.Reading.{below, written_at, record_in, read_in};
+ghost use Rattle.hexreader.specs.Inner.Total.{IsTotal, count_whole};
+ghost use Rattle.hexreader.specs.Inner.Ends.{above_none, record_end};
 
 use model::format::LF;
 
@@ -47,12 +48,18 @@ pub enum Found {
     End,
 }
 
-// A record, and how many bytes of the text it takes: where the next one begins.
+// A record, and how many bytes of the text it takes: where the next one begins. Of a bad record nothing is found.
 #[derive(Clone, Copy)]
 pub struct Read {
-    pub found: Found,
+    pub found: Option<Found>,
     pub next: usize,
 }
+
+// A bad record.
+const BAD: Read = Read {
+    found: None,
+    next: 0,
+};
 
 // How many bytes a text of digits begins with, and their sum modulo 256.
 #[derive(Clone, Copy)]
@@ -144,18 +151,28 @@ fn line_end(rest: &[u8]) -> Option<usize>
     }
 }
 
-// The record that a text begins with: a colon, its bytes, and the end of its line. A bad one is none.
-pub fn read_record(text: &[u8]) -> Option<Read>
-    ensures { read_in text.now result ≡ unless_bad (read_record text.now) }
+// Where the record ends that a text begins with: behind a colon, its bytes, and the end of its line.
+fn record_end(text: &[u8]) -> Option<usize>
+    ensures { result ≡ record_end text.now }
 {
     if *text.first()? != COLON {
         return None;
     }
     let digits = 1 + 2 * count_whole(text)?;
     let end = line_end(&text[digits..])?;
-    let found = record_of(text)?;
-    Some(Read {
-        found,
-        next: digits + end,
-    })
+    Some(digits + end)
+}
+
+// The record that a text begins with. One that doesn't end is bad; one of an unknown type is bad as well, and still takes
+// its bytes.
+pub fn read_record(text: &[u8]) -> Read
+    ensures { read_in text.now result ≡ read_record text.now }
+{
+    let Some(next) = record_end(text) else {
+        return BAD;
+    };
+    Read {
+        found: record_of(text),
+        next,
+    }
 }

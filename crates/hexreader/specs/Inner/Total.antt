@@ -1,6 +1,6 @@
--- The bytes of a record, counted and summed; and the numbers of the model at which 0 stands for none.
+-- The bytes of a record, counted and summed.
 -- Assumes nothing.
-use Rattle.std.specs.Prelude.{ℕ, zero, suc, ◌%◌, ◌≡◌, Option, Some, None, cond, List, length}
+use Rattle.std.specs.Prelude.{ℕ, ◌%◌, ◌≡◌, Option, Some, None, cond, List, length}
 use Rattle.model.specs.Numbers.{no_byte}
 use Rattle.model.specs.Hex.{sum, is_whole}
 use Rattle.hexreader.specs.declared.Total.{Total}
@@ -13,8 +13,3 @@ pub record IsTotal (bs : List ℕ) (r : Total) : Type 0 where
 -- Their number, where they are a whole record.
 abbrev pub count_whole : List ℕ → Option ℕ
 count_whole bs = cond (is_whole bs) (Some (length bs)) None
-
--- A number above 0.
-abbrev pub above_none : ℕ → Option ℕ
-above_none zero = None
-above_none (suc n) = Some (suc n)
