@@ -1,11 +1,15 @@
--- Laws about the newest call of the state at an op.
+-- Laws about the state at an op: its newest call, and numbers of gates.
 -- Assumes nothing.
-use Prim.Native.Nat.{ℕ}
+use Prim.Native.Nat.{ℕ, ◌≤◌}
 use mathlib.Core.Path.{◌≡◌, refl, sym, ap, ◌∙◌}
 use mathlib.Core.Bool.{true, false≢true}
 use mathlib.Core.List.{List}
+use native.Mathlib.Omega.{arith}
+use lib.ListN.{length, get_or, get_or-eq_default}
+use Rattle.model.specs.declared.CallGate.{CallGate}
 use Rattle.model.specs.declared.Fixed.{Fixed}
 use Rattle.model.specs.Record.{state_from, is_gate, is_upcall, pair_of, end_tick_of, in_upcall}
+use Rattle.model.specs.WellFormed.{no_gate}
 use Rattle.model.specs.Step.{end_tick}
 use Rattle.parts.specs.declared.live.Kind.{Kind}
 use Rattle.parts.specs.declared.live.Kind.TheVariants as kinds
@@ -38,3 +42,9 @@ kept_pair_lem f = go f.kind
     go kinds.Empty e = absurd (false≢true e)
     go kinds.Gate e = refl
     go kinds.Upcall e = absurd (false≢true e)
+
+-- ---- numbers of gates
+
+-- Behind the last gate there is none.
+pub no_gate_lem : (gates : List CallGate) (n k : ℕ) → length gates ≡ n → n ≤ k → no_gate ≡ get_or gates k no_gate
+no_gate_lem gates n k e h = let beyond : length gates ≤ k = omega (arith, e) in sym (get_or-eq_default gates no_gate beyond)

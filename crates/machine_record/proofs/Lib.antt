@@ -1,3 +1,4 @@
 -- Laws about the record.
 mod Gates
 pub mod Faithful
+pub mod Places
