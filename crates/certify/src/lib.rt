@@ -16,7 +16,7 @@ use header::Refusal;
 use labels::Bits;
 use loader::{MOST_WORDS, load};
 use machine_record::Machine;
-use model::{Control, Registers};
+use model::Control;
 use pacing::Pace;
 use release::{has_time, relabelling, releases};
 use writer::{X, write_line};
@@ -84,9 +84,7 @@ fn watch(label: Bits, machine: Machine, words: &mut [u32], marks: &[Bits]) -> Op
 {
     let fixed = machine.fixed;
     let mut control = machine.control;
-    let values = machine.values;
-    let labels = machine.labels;
-    let mut registers = Registers { values, labels };
+    let mut registers = machine.registers;
     let opened = leads_within(label, fixed);
     let mut found = break_of(label, opened, control);
     let mut left = steps_left(fixed.limit, control);

@@ -1,14 +1,15 @@
 // A record from words: each word is cut to what its field can hold.
 ghost use Rattle.std.specs.Prelude.{◌≡◌, ◌<◌};
 ghost use Rattle.encoder.specs.Places.{span};
+ghost use Rattle.model.specs.Registers.{as_bank};
 ghost use Rattle.machine_record.specs.Struct.{record_of};
-ghost use Rattle.decoder.specs.Held.{word_at, low32, low8, low_label, pair_from, call_from, call_in, gate_in, fixed_in, control_in, record_in};
+ghost use Rattle.decoder.specs.Held.{word_at, low32, low8, low_label, pair_from, call_from, call_in, gate_in, fixed_in, control_in, registers_in, record_in};
 
 use encoder::places;
 use labels::{Bits, LABEL_COUNT};
 use machine_record::Machine;
 use model::numbers::VALUE_COUNT;
-use model::{Call, CallGate, Control, Fixed, Pair};
+use model::{Call, CallGate, Control, Fixed, Pair, Registers};
 use std::array;
 
 // Bytes are below this number.
@@ -130,14 +131,24 @@ fn control_in(buffer: &[u64]) -> Control
     }
 }
 
+// The registers.
+fn registers_in(buffer: &[u64]) -> Registers
+    ensures { as_bank result ≡ registers_in buffer.now }
+{
+    Registers {
+        values: array::from_fn(|k| low32(word(buffer, places::FIRST_VALUE + k))),
+        labels: array::from_fn(|k| low_label(word(buffer, places::FIRST_LABEL + k))),
+    }
+}
+
 // The record that the words give.
+#[tactic(auto, unfolding(crate::specs::Held::record_in))]
 pub fn machine_in(buffer: &[u64]) -> Machine
     ensures { record_of result ≡ record_in buffer.now }
 {
     Machine {
         fixed: fixed_in(buffer),
         control: control_in(buffer),
-        values: array::from_fn(|k| low32(word(buffer, places::FIRST_VALUE + k))),
-        labels: array::from_fn(|k| low_label(word(buffer, places::FIRST_LABEL + k))),
+        registers: registers_in(buffer),
     }
 }

@@ -7,10 +7,8 @@ ghost use Rattle.encoder.specs.Places.{size, pc, first_value};
 
 use crate::places;
 use crate::places::{MOST_GATES, SPAN};
-use labels::Bits;
 use machine_record::Machine;
-use model::numbers::REGISTER_COUNT;
-use model::{Call, CallGate, Control, Fixed, Pair};
+use model::{Call, CallGate, Control, Fixed, Pair, Registers};
 
 // A call's words: zeros where a call of its kind keeps nothing.
 fn call_words(call: Call) -> [u64; places::CALL_SPAN]
@@ -76,13 +74,10 @@ fn put_control(control: Control, words: &mut [u64; SPAN])
 }
 
 // Puts the register values, and the register labels behind them.
-fn put_registers(
-    values: [u32; REGISTER_COUNT],
-    labels: [Bits; REGISTER_COUNT],
-    words: &mut [u64; SPAN],
-)
-    ensures { words.new ≡ sets words.old first_value (values ++ labels) }
+fn put_registers(registers: Registers, words: &mut [u64; SPAN])
+    ensures { words.new ≡ sets words.old first_value (registers.values ++ registers.labels) }
 {
+    let Registers { values, labels } = registers;
     words[places::FIRST_VALUE..places::FIRST_LABEL].copy_from_slice(&values.map(u64::from));
     words[places::FIRST_LABEL..].copy_from_slice(&labels.map(u64::from));
 }
@@ -94,6 +89,6 @@ pub fn words_of(machine: Machine) -> [u64; SPAN]
     let mut words = [0; SPAN];
     put_fixed(machine.fixed, &mut words);
     put_control(machine.control, &mut words);
-    put_registers(machine.values, machine.labels, &mut words);
+    put_registers(machine.registers, &mut words);
     words
 }

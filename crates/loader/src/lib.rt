@@ -52,8 +52,8 @@ fn with_register(machine: Machine, k: u64, label: u64, value: u64) -> Machine
 {
     let mut next = machine;
     let at = k as usize;
-    next.values[at] = value as u32;
-    next.labels[at] = label as Bits;
+    next.registers.values[at] = value as u32;
+    next.registers.labels[at] = label as Bits;
     next
 }
 

@@ -12,7 +12,9 @@ use Rattle.model.specs.declared.Request.{Request}
 use Rattle.model.specs.declared.Request.TheVariants.{Step, Run, RunTo}
 use lib.Dec.{ltb}
 use borrow.Author.Tests.{le-ltb, ltb-true}
-use Rattle.model.specs.Record.{State, machine_of, state_from, lent}
+use Rattle.model.specs.Record.{State, machine_of, lent}
+use Rattle.model.specs.declared.Registers.{Registers}
+use Rattle.model.specs.Registers.{state_over}
 use Rattle.model.specs.WellFormed.{well_formed, lent_whole}
 use Rattle.model.specs.Step.{run, run_to}
 use Rattle.model.specs.Answer.{answer, work, answer_of}
@@ -40,16 +42,16 @@ paced_work (RunTo k) s w =
     choice (λ (t : State). t ≡ run_to k s) (ltb k s.control.clock) _ _
     (λ e. sym (past_stays k s (fit (machine_of s) w) (ltb-true k s.control.clock e))) (λ e. refl)
 
-pub carried_of : {q : Request} {m : Machine} {pace : Pace} {words marks : List ℕ} {control : Control} {values labels words' : List ℕ}
+pub carried_of : {q : Request} {m : Machine} {pace : Pace} {words marks : List ℕ} {control : Control} {registers : Registers} {words' : List ℕ}
     → well_formed (record_of m) ≡ true → lent_whole m.fixed.size (lent words marks) ≡ true → pace ≡ pace_of q m.fixed.limit
-    → state_from m.fixed control values labels words' marks ≡ advanced pace (state_from m.fixed m.control m.values m.labels words marks)
-    → Carried q m words marks (record { fixed = m.fixed; control = control; values = values; labels = labels }) words' marks
-carried_of {q} {m} {pace} {words} {marks} {control} {values} {labels} {words'} w l e h =
+    → state_over m.fixed control registers words' marks ≡ advanced pace (state_over m.fixed m.control m.registers words marks)
+    → Carried q m words marks (record { fixed = m.fixed; control = control; registers = registers }) words' marks
+carried_of {q} {m} {pace} {words} {marks} {control} {registers} {words'} w l e h =
     record { machine = ap machine_of there; memory = ap (λ (s : State). s.memory) there }
   where
-    there : state_from m.fixed control values labels words' marks ≡ work q (state_from m.fixed m.control m.values m.labels words marks)
+    there : state_over m.fixed control registers words' marks ≡ work q (state_over m.fixed m.control m.registers words marks)
     there =
-        let s = state_from m.fixed m.control m.values m.labels words marks in
+        let s = state_over m.fixed m.control m.registers words marks in
         h ∙ rw (ready_fitting s w l, e) (paced_work q s w)
 
 module _ (q : Request) (m : Machine) (words labels : List ℕ) where

@@ -14,7 +14,7 @@ use causes::Cause;
 use engine::{Task, advance};
 use labels::Bits;
 use machine_record::{Machine, is_lent_whole};
-use model::{Registers, Request};
+use model::Request;
 use pacing::Pace;
 
 // What a call answers: how it ended, and the record, which comes back beside a refusal too.
@@ -42,19 +42,14 @@ fn carried(machine: Machine, request: Request, words: &mut [u32], marks: &mut [B
 {
     let fixed = machine.fixed;
     let start = machine.control;
-    let values = machine.values;
-    let labels = machine.labels;
-    let mut registers = Registers { values, labels };
+    let mut registers = machine.registers;
     let pace = pace_of(request, fixed.limit);
     let task = Task { start, pace };
     let control = advance(fixed, task, &mut registers, words, marks);
-    let values = registers.values;
-    let labels = registers.labels;
     Machine {
         fixed,
         control,
-        values,
-        labels,
+        registers,
     }
 }
 

@@ -7,7 +7,7 @@ use Rattle.machine_record.specs.Struct.{record_of}
 
 -- The struct of a record.
 abbrev pub struct_of : records.Machine → Machine
-struct_of r = record { fixed = r.fixed; control = r.control; values = r.registers.values; labels = r.registers.labels }
+struct_of r = record { fixed = r.fixed; control = r.control; registers = record { values = r.registers.values; labels = r.registers.labels } }
 
 -- Equal records come from equal structs.
 pub faithful : (m n : Machine) → record_of m ≡ record_of n → m ≡ n

@@ -9,7 +9,7 @@ ghost use Rattle.machine_record.specs.Struct.{record_of};
 
 use labels::{Bits, Label};
 use model::numbers::{MOST_GATES, REGISTER_COUNT, ZERO_REGISTER};
-use model::{Call, CallGate, Control, Fixed, Pair};
+use model::{Call, CallGate, Control, Fixed, Pair, Registers};
 use wellformed::{calls_well_formed, end_in_range, fixed_in_range, gates_valid, is_valid};
 
 mod wellformed;
@@ -19,8 +19,7 @@ mod wellformed;
 pub struct Machine {
     pub fixed: Fixed,
     pub control: Control,
-    pub values: [u32; REGISTER_COUNT],
-    pub labels: [Bits; REGISTER_COUNT],
+    pub registers: Registers,
 }
 
 // Whether the lent words and their labels, the marks, are each at least as long as the size.
@@ -66,13 +65,14 @@ impl Machine {
             end: 0,
             why: 0,
         };
-        let values = [0u32; REGISTER_COUNT];
-        let labels = [Label::LOWEST.0; REGISTER_COUNT];
+        let registers = Registers {
+            values: [0; REGISTER_COUNT],
+            labels: [Label::LOWEST.0; REGISTER_COUNT],
+        };
         Machine {
             fixed,
             control,
-            values,
-            labels,
+            registers,
         }
     }
 
@@ -83,12 +83,13 @@ impl Machine {
     {
         let fixed = self.fixed;
         let control = self.control;
+        let Registers { values, labels } = self.registers;
         fixed_in_range(fixed.size, fixed.limit, fixed.count)
             && end_in_range(control)
             && control.clock <= fixed.limit
             && is_valid(control.pair)
             && calls_well_formed(control)
-            && is_blank(self.labels[ZERO_REGISTER], self.values[ZERO_REGISTER])
+            && is_blank(labels[ZERO_REGISTER], values[ZERO_REGISTER])
             && gates_valid(fixed.gates, fixed.count)
     }
 }

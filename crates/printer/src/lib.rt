@@ -16,7 +16,7 @@ ghost use Rattle.printer.specs.Inner.Placing.{state_with, Entries, longest, long
 use causes::Cause;
 use labels::{Bits, Label};
 use machine_record::{Machine, is_blank, is_lent_whole};
-use model::{Call, Control, Pair};
+use model::{Call, Control, Pair, Registers};
 use writer::write_line;
 
 // The letters of the lines.
@@ -127,8 +127,7 @@ fn write_listing(
     ensures { Placed (listing_for viewer (state_with machine words.now marks.now)) out.old 0 result out.new }
 {
     let control = machine.control;
-    let values = machine.values;
-    let labels = machine.labels;
+    let Registers { values, labels } = machine.registers;
     let size = machine.fixed.size as usize;
     let mut at = write_head(out, viewer, control);
     at = write_entries(out, at, viewer, R, &values, &labels);

@@ -5,7 +5,7 @@ use mathlib.Core.Path.{◌≡◌, sym, ◌∙◌}
 use native.Mathlib.Omega.{arith}
 use lib.ListN.{length, take}
 use lib.Seq.{length-take-le}
-use borrow.Author.Rules.{length_unmapped}
+use borrow.Author.Rules.{rules}
 use Rattle.model.specs.Numbers.{letter_r, letter_w, register_count}
 use Rattle.model.specs.Record.{State}
 use Rattle.model.specs.Listing.{entry_lines}
@@ -21,11 +21,11 @@ abbrev state : Start → State
 state start = state_with start.args.machine start.args.words.now start.args.marks.now
 
 -- There are sixteen registers, with a label each.
-marked : (start : Start) → length start.args.machine.labels ≡ register_count
-marked start = let g = start.well_formed in search (length_unmapped, g)
+marked : (start : Start) → length start.args.machine.registers.labels ≡ register_count
+marked start = search rules
 
-sixteen : (start : Start) → length start.args.machine.values ≡ register_count
-sixteen start = let g = start.well_formed in search (length_unmapped, g)
+sixteen : (start : Start) → length start.args.machine.registers.values ≡ register_count
+sixteen start = search rules
 
 -- They end within 342 bytes.
 head_place : (c : After-write_head-at) → c.write_head-at.result ≤ 342
@@ -60,7 +60,7 @@ write_entries-requires c =
             (lent_part start).0,
             head_place (goal.at.write_entries-requires c).After-write_head-at,
             c.write_entries-at.ensures.place,
-            entries_most letter_r (bank_seen start.args.viewer (state start).registers) 0 (length start.args.machine.values),
+            entries_most letter_r (bank_seen start.args.viewer (state start).registers) 0 (length start.args.machine.registers.values),
             sixteen start,
             start.requires.most,
           );

@@ -12,12 +12,12 @@ pub returns : goal.returns
 returns c =
     let a = c.args in
     let words76 : length a.words.now ≡ 76 = search rules in
-    let values16 : length a.values ≡ 16 = search rules in
-    let labels16 : length a.labels ≡ 16 = search rules in
-    let values : c.copy_from_slice.new.self ≡ a.values
+    let values16 : length a.registers.values ≡ 16 = search rules in
+    let labels16 : length a.registers.labels ≡ 16 = search rules in
+    let values : c.copy_from_slice.new.self ≡ a.registers.values
     = c.copy_from_slice.ensures.after ∙ mapped_same c.map.ensures.items values16 (λ x y p q called. search rules) in
-    let labels : c.copy_from_slice-2.new.self ≡ a.labels
+    let labels : c.copy_from_slice-2.new.self ≡ a.registers.labels
     = c.copy_from_slice-2.ensures.after ∙ mapped_same c.map-2.ensures.items labels16 (λ x y p q called. search rules) in
     rw
-    (values, labels, copied a.words.now a.values 44 16 values16 (omega arith), copied (sets a.words.now 44 a.values) a.labels 60 16 labels16 (omega (arith, length-sets a.words.now 44 a.values)))
-    (sets_then a.words.now 44 a.values a.labels (rw values16 refl))
+    (values, labels, copied a.words.now a.registers.values 44 16 values16 (omega arith), copied (sets a.words.now 44 a.registers.values) a.registers.labels 60 16 labels16 (omega (arith, length-sets a.words.now 44 a.registers.values)))
+    (sets_then a.words.now 44 a.registers.values a.registers.labels (rw values16 refl))

@@ -15,8 +15,8 @@ pub returns : goal.returns
 returns c =
     let m = c.args.machine in
     let gates8 : length m.fixed.gates ≡ 8 = search rules in
-    let values16 : length m.values ≡ 16 = search rules in
-    let labels16 : length m.labels ≡ 16 = search rules in
+    let values16 : length m.registers.values ≡ 16 = search rules in
+    let labels16 : length m.registers.labels ≡ 16 = search rules in
     let r = record_of m in
     put_parts (replicate span 0) r gates8 c.put_fixed.ensures c.put_control.ensures c.put_registers.ensures
     ∙ sets_start (replicate span 0) (words_of r) span (length_words r gates8 values16 labels16) (search rules)
