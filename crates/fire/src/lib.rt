@@ -23,6 +23,7 @@ use writer::{X, write_line};
 
 // Fires a text and gives how many bytes of the output it has written. Output that is too short is left as it is, with 0
 // bytes. The memory may hold anything: what lies below the text's size is set anew, the rest is left.
+#[tactic(auto, using(crate::proofs::Laws::load_fired, model::proofs::Program::load_ready), unfolding(model::specs::Program::fire))]
 pub fn fire(text: &[u8], words: &mut [u32], labels: &mut [Bits], out: &mut [u8]) -> usize
     ensures { fired result out.new words.new labels.new ≡ fire text.now (lent words.old labels.old) out.old }
 {
@@ -31,6 +32,7 @@ pub fn fire(text: &[u8], words: &mut [u32], labels: &mut [Bits], out: &mut [u8])
 }
 
 // Loads a text, with a refusal's line as wide as those of all images.
+#[tactic(auto, using(std::proofs::lemmas::Result::err_from_is_err_and))]
 fn load_text(text: &[u8], words: &mut [u32], labels: &mut [Bits]) -> Result<Machine, Refusal<u64>>
     ensures { loading_of result words.new labels.new ≡ load text.now (lent words.old labels.old) }
 {
@@ -39,6 +41,7 @@ fn load_text(text: &[u8], words: &mut [u32], labels: &mut [Bits]) -> Result<Mach
 
 // Fires what a load has given: the machine is run and printed, or the line of a refusal is written. Gives how many bytes of
 // the output are written.
+#[tactic(auto, unfolding(crate::specs::InTurn::in_turn))]
 pub fn fire_loaded(
     loaded: Result<Machine, Refusal<u64>>,
     words: &mut [u32],
@@ -59,6 +62,7 @@ pub fn fire_loaded(
 }
 
 // Writes the line of a refusal and gives how many bytes it takes, or 0 where the output is too short.
+#[tactic(auto, unfolding(crate::specs::InTurn::refusing, writer::specs::Writing::writing, writer::specs::Writing::written))]
 fn write_refusal(out: &mut [u8], number: u64, line: u64) -> usize
     ensures { answer result out.new ≡ refusing number line out.old }
 {
@@ -68,6 +72,7 @@ fn write_refusal(out: &mut [u8], number: u64, line: u64) -> usize
 
 // Fires a text in a memory that has room for every machine and into an output that has room for every reply, and gives
 // how many bytes it has written. The memory may hold anything.
+#[tactic(auto, using(texts::proofs::Buffer::whole_reply, texts::proofs::Buffer::whole_counts, model::proofs::Program::load_ready), unfolding(model::specs::Program::fire, model::specs::Program::fire_whole))]
 pub fn fire_whole(
     text: &[u8],
     words: &mut [u32; MOST_WORDS],
@@ -81,6 +86,7 @@ pub fn fire_whole(
 }
 
 // The same in a memory of its own, all 0: what the program `firing` prints for a text.
+#[tactic(auto, unfolding(model::specs::Program::program_memory, model::specs::Program::fire_alone))]
 pub fn fire_alone(text: &[u8], out: &mut [u8; OUTPUT]) -> usize
     ensures reply { replied result out.new ≡ fire_alone text.now out.old }
     ensures counted { (result ≤ length out.new) × (result ≡ length (take result out.new)) }

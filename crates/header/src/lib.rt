@@ -38,6 +38,7 @@ impl From<Refusal<u32>> for Refusal<u64> {
 }
 
 // The machine of an M line.
+#[tactic(auto, using(texts::proofs::Ranges::header_range))]
 fn machine_of(header: Header) -> Machine
     requires { header_in_range header ≡ true }
     ensures { record_of result ≡ machine_of_header header }
@@ -53,6 +54,7 @@ fn machine_of(header: Header) -> Machine
 
 // A text of so many bytes that begins with this line, loaded with so many lent words and labels up to that line: the record
 // of an M line that passes its tests, or a refusal.
+#[tactic(auto, unfolding(model::specs::Load::judge_header, model::specs::Load::judge_m))]
 pub fn load_header(
     bytes: usize,
     first: Line,

@@ -23,6 +23,7 @@ pub const RECORD_SPAN: usize = encoder::SPAN;
 pub const SHORT_BUFFER: u64 = 255;
 
 // Whether a buffer is shorter than so many words. Each call tries this before everything else.
+#[tactic(auto, unfolding(crate::specs::RecordCalls::is_short))]
 pub fn is_short(buffer: &[u64], least: usize) -> bool
     ensures { result ≡ is_short least buffer.now }
 {
@@ -46,6 +47,7 @@ pub fn keep(ended: Result<(), Cause>, machine: Machine, record: &mut [u64])
 }
 
 // One step of the record in the buffer, its run or its run to a tick: what three calls of the library share.
+#[tactic(auto, unfolding(crate::specs::RecordCalls::record_call, decoder::specs::Reading::read))]
 pub fn advanced(request: Request, record: &mut [u64], words: &mut [u32], labels: &mut [Bits]) -> u64
     ensures { left result «record».new words.new labels.new ≡ record_call (answer_of request) «record».old (lent words.old labels.old) }
 {

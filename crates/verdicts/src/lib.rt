@@ -37,6 +37,7 @@ pub const BEHIND_HEADER: Last = Last {
 };
 
 // Whether the numbers of an M line are in their ranges.
+#[tactic(auto, unfolding(model::specs::Load::header_in_range, model::specs::Ops::is_label))]
 fn header_in_range(header: Header) -> bool
     ensures { result ≡ header_in_range header }
 {
@@ -51,6 +52,7 @@ fn header_in_range(header: Header) -> bool
 }
 
 // Whether the numbers of a G line are in their ranges, and it isn't the ninth.
+#[tactic(auto, unfolding(model::specs::Load::gate_in_range, model::specs::Ops::is_label))]
 fn gate_in_range(count: u32, pc: u64, p: u64, t: u64) -> bool
     ensures { result ≡ gate_in_range count pc p t }
 {
@@ -58,6 +60,7 @@ fn gate_in_range(count: u32, pc: u64, p: u64, t: u64) -> bool
 }
 
 // Whether the numbers of an R or W line are in their ranges.
+#[tactic(auto, unfolding(model::specs::Load::entry_in_range, model::specs::Ops::is_label))]
 fn entry_in_range(bound: u32, k: u64, label: u64, value: u64) -> bool
     ensures { result ≡ entry_in_range bound k label value }
 {
@@ -78,6 +81,7 @@ fn rank(kind: Kind) -> u8
 }
 
 // Whether a line of this kind is in order behind the last one.
+#[tactic(auto, unfolding(model::specs::Load::in_order))]
 fn is_in_order(last: Last, kind: Kind) -> bool
     ensures { result ≡ in_order last kind }
 {
@@ -86,6 +90,7 @@ fn is_in_order(last: Last, kind: Kind) -> bool
 }
 
 // Whether the number of a line of this kind is rising.
+#[tactic(auto, unfolding(model::specs::Load::rising))]
 fn is_rising(last: Last, kind: Kind, k: u64) -> bool
     ensures { result ≡ rising last kind k }
 {
@@ -94,6 +99,7 @@ fn is_rising(last: Last, kind: Kind, k: u64) -> bool
 }
 
 // The verdict on an M line: its ranges, its pair, the lent memory.
+#[tactic(auto, using(texts::proofs::Ranges::header_range), unfolding(model::specs::Load::header_tests, causes::specs::Tests::first_refusal, model::specs::WellFormed::lent_whole))]
 pub fn header_verdict(header: Header, words: usize, labels: usize) -> Result<(), Cause>
     ensures { (m : Bank) → length m.values ≡ words → length m.labels ≡ labels → outcome_of result ≡ first_refusal (header_tests header m) }
 {
@@ -111,6 +117,7 @@ pub fn header_verdict(header: Header, words: usize, labels: usize) -> Result<(),
 }
 
 // The verdict on a G line behind so many gates: its kind, its ranges, its pair.
+#[tactic(auto, using(texts::proofs::Ranges::gate_range), unfolding(causes::specs::Tests::first_refusal))]
 fn gate_verdict(count: u32, last: Last, pc: u64, p: u64, t: u64) -> Result<(), Cause>
     ensures { outcome_of result ≡ first_refusal (gate_tests count last pc p t) }
 {
@@ -127,6 +134,7 @@ fn gate_verdict(count: u32, last: Last, pc: u64, p: u64, t: u64) -> Result<(), C
 }
 
 // The verdict on an R or W line, whose number is to be below the bound: its kind, its ranges, its number.
+#[tactic(auto, unfolding(causes::specs::Tests::first_refusal))]
 fn entry_verdict(
     kind: Kind,
     bound: u32,
@@ -150,6 +158,7 @@ fn entry_verdict(
 }
 
 // The verdict on an R line: that of its entry, and then whether it is for register 0.
+#[tactic(auto, using(causes::proofs::Order::behind_passed, causes::proofs::Order::behind_refused, std::proofs::lemmas::Result::err_from_is_err_and), unfolding(causes::specs::Tests::first_refusal, model::specs::Ops::writable))]
 fn register_verdict(last: Last, k: u64, label: u64, value: u64) -> Result<(), Cause>
     ensures { outcome_of result ≡ first_refusal (register_tests last k label value) }
 {
@@ -162,6 +171,7 @@ fn register_verdict(last: Last, k: u64, label: u64, value: u64) -> Result<(), Ca
 }
 
 // The verdict on a line behind the first, for a machine of this size with so many gates.
+#[tactic(auto, unfolding(model::specs::Load::line_tests, causes::specs::Tests::first_refusal))]
 pub fn line_verdict(size: u32, count: u32, last: Last, line: Line) -> Result<(), Cause>
     ensures { outcome_of result ≡ first_refusal (line_tests size count last line) }
 {
