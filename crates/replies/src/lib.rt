@@ -1,5 +1,4 @@
-// What the programs share: read to the end, one call, write what it gave; and what they say where that goes wrong. Reading and
-// writing stay out of line: inlined round the hot loop they cost each step an instruction or more.
+// What the programs share: read to the end, one call, write what it gave; and what they say where that goes wrong.
 #![tactic(auto)]
 
 ghost use Rattle.std.specs.Prelude.{◌<◌, length, take, IfOk, OnOk};
@@ -38,7 +37,6 @@ pub fn complain<D: Display + Drop>(rt: &impl Eprint, program: &str, what: D) {
 }
 
 // Reads an input to its end, or until a buffer is full, and gives how many bytes came.
-#[inline(never)]
 pub fn read_input<I: Read>(input: &mut I, buf: &mut [u8]) -> Result<usize, Failure>
     ensures count_in_bounds { ReadsAtMost result buf.new }
     ensures bytes { IfOk result (λ n. Consumes (I.remaining input.old) (I.remaining input.new) (take n buf.new)) }
@@ -48,7 +46,6 @@ pub fn read_input<I: Read>(input: &mut I, buf: &mut [u8]) -> Result<usize, Failu
 }
 
 // Writes bytes to an output.
-#[inline(never)]
 pub fn write_output<O: Write>(output: &mut O, bytes: &[u8]) -> Result<(), Failure>
     ensures { OnOk result (Appends (O.contents output.old) (O.contents output.new) bytes.now) }
 {
