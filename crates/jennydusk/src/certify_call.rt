@@ -25,6 +25,7 @@ fn keep_certificate(found: Option<Break>, buffer: &mut [u64])
 
 // Certifies a text at a label: the certificate goes to its buffer, and words and labels hold what the run to the end leaves.
 #[unsafe(no_mangle)]
+#[tactic(auto, unfolding(crate::specs::Calls::certify_call, record_calls::specs::RecordCalls::is_short))]
 pub extern "C" fn jennydusk_certify(
     label: Bits,
     text: &[u8],

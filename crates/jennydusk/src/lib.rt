@@ -23,6 +23,7 @@ mod view_call;
 
 // Loads a text: the record goes to its buffer, and the memory to words and labels.
 #[unsafe(no_mangle)]
+#[tactic(auto, unfolding(crate::specs::Calls::load_call, record_calls::specs::RecordCalls::is_short))]
 pub extern "C" fn jennydusk_load(
     text: &[u8],
     words: &mut [u32],
@@ -40,6 +41,7 @@ pub extern "C" fn jennydusk_load(
 
 // One step of the record.
 #[unsafe(no_mangle)]
+#[tactic(auto, unfolding(crate::specs::Calls::step_call))]
 pub extern "C" fn jennydusk_step(record: &mut [u64], words: &mut [u32], labels: &mut [Bits]) -> u64
     ensures { left result «record».new words.new labels.new ≡ step_call «record».old (lent words.old labels.old) }
 {
@@ -48,6 +50,7 @@ pub extern "C" fn jennydusk_step(record: &mut [u64], words: &mut [u32], labels: 
 
 // Steps of the record until its end isn't 0.
 #[unsafe(no_mangle)]
+#[tactic(auto, unfolding(crate::specs::Calls::run_call))]
 pub extern "C" fn jennydusk_run(record: &mut [u64], words: &mut [u32], labels: &mut [Bits]) -> u64
     ensures { left result «record».new words.new labels.new ≡ run_call «record».old (lent words.old labels.old) }
 {
@@ -56,6 +59,7 @@ pub extern "C" fn jennydusk_run(record: &mut [u64], words: &mut [u32], labels: &
 
 // Steps of the record that finish at or before the tick.
 #[unsafe(no_mangle)]
+#[tactic(auto, unfolding(crate::specs::Calls::run_to_call))]
 pub extern "C" fn jennydusk_run_to(
     record: &mut [u64],
     words: &mut [u32],

@@ -13,6 +13,7 @@ use record_calls::{RECORD_SPAN, SHORT_BUFFER, is_short};
 // Loads an M text with a HEX text, whose words get this label: the record goes to its buffer, and the memory to words and
 // labels.
 #[unsafe(no_mangle)]
+#[tactic(auto, unfolding(crate::specs::Calls::load_hex_call, record_calls::specs::RecordCalls::is_short))]
 pub extern "C" fn jennydusk_load_hex(
     text: &[u8],
     hex: &[u8],

@@ -11,6 +11,7 @@ use record_calls::{RECORD_SPAN, SHORT_BUFFER, is_short, no_record};
 
 // Writes the listing of the record and its memory into `out`, as the label sees them.
 #[unsafe(no_mangle)]
+#[tactic(auto, using(crate::proofs::Length::bytes_most), unfolding(crate::specs::Calls::print_for_call, record_calls::specs::RecordCalls::is_short, decoder::specs::Reading::read))]
 pub extern "C" fn jennydusk_print_for(
     record: &[u64],
     words: &[u32],
@@ -35,6 +36,7 @@ pub extern "C" fn jennydusk_print_for(
 
 // Writes the whole listing: that of the highest label, which sees everything.
 #[unsafe(no_mangle)]
+#[tactic(auto, using(labels::proofs::Constants::highest_number), unfolding(crate::specs::Calls::print_call))]
 pub extern "C" fn jennydusk_print(
     record: &[u64],
     words: &[u32],

@@ -10,6 +10,7 @@ use view::view;
 
 // The view of a text from a label at a tick: words and labels hold what the run to the tick leaves.
 #[unsafe(no_mangle)]
+#[tactic(auto, using(crate::proofs::Length::view_most), unfolding(crate::specs::Calls::view_call))]
 pub extern "C" fn jennydusk_view(
     text: &[u8],
     label: Bits,

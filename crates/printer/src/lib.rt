@@ -61,7 +61,8 @@ pub fn print(machine: Machine, words: &[u32], marks: &[Bits], out: &mut [u8]) ->
     print_for(machine, Label::HIGHEST.0, words, marks, out)
 }
 
-// Prints what the label `viewer` sees of it.
+// Prints what the label `viewer` sees of it. Out of line: inlined round the hot loop it costs each step an instruction or more.
+#[inline(never)]
 pub fn print_for(
     machine: Machine,
     viewer: Bits,
