@@ -1,2 +1,1 @@
 mod Length
-mod Laws

@@ -1,2 +1,0 @@
--- Laws that proofs of calls cite, here and above.
-pub mod Laws
