@@ -103,7 +103,7 @@ fn fire_named(rt: &HostRuntime, name: &[u8], memory: &mut Memory) -> io::Result<
 
 // Fires the files that the arguments name. One that is too long, or that would not stand on one line, names none.
 fn fire_arguments(rt: &HostRuntime, memory: &mut Memory) -> io::Result<()> {
-    // The library's `args` takes memory from a heap, and ends at an argument that is no text.
+    // The library's `args` takes memory from a heap, and fails as a whole where one argument is no text.
     for i in 1..usize::MAX {
         let mut name = [0u8; MOST_NAME];
         match rt.arg(i, &mut name) {

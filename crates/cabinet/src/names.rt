@@ -46,7 +46,8 @@ fn name_of(count: usize, buf: &[u8]) -> Result<Option<usize>, Unnamed>
     }
 }
 
-// Keeps a byte of a name behind those before it, where there is room, and gives how many it has then.
+// Keeps a byte of a name behind those before it, where there is room, and gives how many it has then. The buffer is lent with
+// its count: a `Vec` would take memory from a heap.
 fn keep(byte: u8, count: usize, buf: &mut [u8]) -> usize {
     match buf.get_mut(count) {
         Some(place) => {

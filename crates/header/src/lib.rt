@@ -2,7 +2,7 @@
 // refusal.
 #![tactic(auto)]
 
-ghost use Rattle.std.specs.Prelude.{◌≡◌, true, List, ℕ, length};
+ghost use Rattle.std.specs.Prelude.{◌≡◌, true, List, ℕ, length, Err};
 ghost use Rattle.model.specs.Record.{lent};
 ghost use Rattle.model.specs.Load.{machine_of_header, header_in_range, judge_header};
 ghost use Rattle.machine_record.specs.Struct.{record_of};
@@ -37,6 +37,13 @@ impl From<Refusal<u32>> for Refusal<u64> {
     }
 }
 
+// A refusal.
+fn refused(cause: Cause, line: u32) -> Result<Machine, Refusal<u32>>
+    ensures { result ≡ Err (record { cause = cause; line = line }) }
+{
+    Err(Refusal { cause, line })
+}
+
 // The machine of an M line.
 #[tactic(auto, using(texts::proofs::Ranges::header_range))]
 fn machine_of(header: Header) -> Machine
@@ -65,16 +72,10 @@ pub fn load_header(
 {
     let well_sized = (1 <= bytes) & (bytes <= LONGEST_TEXT);
     if !well_sized {
-        return Err(Refusal {
-            cause: Cause::TextLength,
-            line: 0,
-        });
+        return refused(Cause::TextLength, 0);
     }
     let Line::M(size, errorpc, pc, p, t, limit) = first else {
-        return Err(Refusal {
-            cause: Cause::MalformedLine,
-            line: 1,
-        });
+        return refused(Cause::MalformedLine, 1);
     };
     let header = Header {
         size,
@@ -85,7 +86,7 @@ pub fn load_header(
         limit,
     };
     if let Err(cause) = header_verdict(header, words, labels) {
-        return Err(Refusal { cause, line: 1 });
+        return refused(cause, 1);
     }
     Ok(machine_of(header))
 }

@@ -73,7 +73,8 @@ fn fire_input(rt: &HostRuntime, label: Bits, text: &[u8]) -> Result<(), Refusal>
     Ok(write_output(&mut rt.stdout(), &output[..count])?)
 }
 
-// Fires it with the M text of a file, which stays open meanwhile.
+// Fires it with the M text of a file, which stays open meanwhile: with standard input closed the file stands in its place. So
+// it is opened and read here, and not as `cabinet` does.
 fn fire_file(rt: &HostRuntime, label: Bits, name: &str) -> Result<(), Refusal> {
     let mut file = File::open(rt, name).map_err(|_| Refusal::File)?;
     let mut text = [0u8; SPACE];

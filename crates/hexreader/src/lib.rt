@@ -36,7 +36,8 @@ const TYPE_DIGITS: usize = 7;
 
 pub const DATA_DIGITS: usize = 9;
 
-// The types of records: bytes, and the end.
+// The types of records: bytes, and the end. Numbers of the format, any of which may stand there: an enum would be made of two of
+// them and be matched again.
 const DATA_TYPE: u8 = 0;
 
 const END_TYPE: u8 = 1;
@@ -48,7 +49,8 @@ pub enum Found {
     End,
 }
 
-// A record, and how many bytes of the text it takes: where the next one begins. Of a bad record nothing is found.
+// A record, and how many bytes of the text it takes: where the next one begins. Of a bad record nothing is found, and `next`
+// stands beside it as in the definition (`read_record`).
 #[derive(Clone, Copy)]
 pub struct Read {
     pub found: Option<Found>,
@@ -100,7 +102,7 @@ fn sum_bytes(text: &[u8]) -> Total
 {
     let mut count: usize = 0;
     let mut sum: u8 = 0;
-    // The count is an answer too: a `for` over pairs of digits would count and stop at a bad one by hand as well.
+    // The count is an answer too: an iterator over pairs of digits would have to count and to stop at a bad one besides.
     while let Some(byte) = byte_at(text, LENGTH_DIGITS + 2 * count) {
         sum = sum.wrapping_add(byte);
         count += 1;

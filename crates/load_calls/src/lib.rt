@@ -18,7 +18,7 @@ use record_calls::keep;
 // A number is below this one; a line or a length stands above it.
 const NUMBERS: u64 = 256;
 
-// A number and a count in one answer.
+// A number and a count in one answer, since a program in another language gets one number back.
 pub fn counted(number: u8, count: u32) -> u64
     ensures { result ≡ counted number count }
 {

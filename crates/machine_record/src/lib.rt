@@ -22,7 +22,8 @@ pub struct Machine {
     pub registers: Registers,
 }
 
-// Whether the lent words and their labels, the marks, are each at least as long as the size.
+// Whether the lent words and their labels, the marks, are each at least as long as the size. They are two slices in every
+// public call, as programs in other languages lend them.
 #[tactic(auto, unfolding(model::specs::WellFormed::lent_whole))]
 pub fn is_lent_whole(size: u32, words: &[u32], marks: &[Bits]) -> bool
     ensures { result ≡ lent_whole size (lent words.now marks.now) }

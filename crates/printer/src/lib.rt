@@ -38,7 +38,8 @@ const UPCALL: u64 = 2;
 // More bytes than any listing has.
 pub const OUTPUT: usize = 65536;
 
-// How many bytes were written, or why none; and the record as it was given.
+// How many bytes were written, or why none; and the record as it was given, which comes back beside a refusal too
+// (`printing_of`).
 #[derive(Clone, Copy)]
 pub struct Printed {
     pub written: Result<usize, Cause>,

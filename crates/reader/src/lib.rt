@@ -104,7 +104,8 @@ fn read_fields(text: &[u8], numbers: &mut [u64]) -> Option<usize>
 
 // ---- a line
 
-// How many fields a line with this letter has; 0 for a byte that is no letter of a line.
+// How many fields a line with this letter has; 0 for a byte that is no letter of a line, as in the definition (`field_count`): a
+// line of no fields is then malformed.
 #[tactic(auto, unfolding(model::specs::Text::field_count))]
 fn field_count(letter: u8) -> usize
     ensures { result ≡ field_count letter }

@@ -69,8 +69,8 @@ fn put_field(out: &mut [u8], n: u64) -> usize
     1 + put_number(&mut out[1..], n)
 }
 
-// Writes a number, its last digit first. By hand: the library writes a number to a stream of text and not to a slice, and a
-// crate that does would have to be believed too.
+// Writes a number, its last digit first. By hand: the library's writing into a slice
+// promises no bytes, and `Wrote` says which they are.
 fn put_number(out: &mut [u8], n: u64) -> usize
     requires { length (decimal n) ≤ length out.old }
     ensures { Wrote (decimal n) out.old result out.new }
