@@ -13,6 +13,7 @@ use model::{Control, Fixed};
 use parts::calls::{OpenCall, newest};
 
 // Whether the label `other` flows to `label`.
+#[tactic(auto, unfolding(model::specs::Seen::within))]
 pub(in crate) fn is_within(label: Bits, other: Bits) -> bool
     ensures { result ≡ within label other }
 {
@@ -35,6 +36,7 @@ pub(in crate) fn leads_within(label: Bits, fixed: Fixed) -> bool
 }
 
 // The break that a state is, or none. `opened` says whether a gate leads within.
+#[tactic(auto, unfolding(crate::specs::Inner::Breaks::break_with, model::specs::Record::in_upcall, model::specs::Record::newest))]
 pub(in crate) fn break_of(label: Bits, opened: bool, control: Control) -> Option<Break>
     ensures { certificate_of result ≡ break_with label opened control }
 {

@@ -15,6 +15,7 @@ const RELABEL: u32 = 16;
 const TICKS: u32 = 2;
 
 // The word that is fetched at the pc under the pc label p, if it relabels.
+#[tactic(auto, using(crate::proofs::Attempt::relabels_with), unfolding(crate::specs::Inner::Release::relabelling_at))]
 pub(in crate) fn relabelling(
     size: u32,
     pc: u32,
@@ -39,6 +40,7 @@ pub(in crate) fn relabelling(
 
 // Whether giving the label `value` to a register labelled `old`, where the value is labelled `source`, releases it under
 // the pc label p.
+#[tactic(auto, unfolding(crate::specs::Inner::Release::tries_with, model::specs::Ops::is_label))]
 fn tries_release(label: Bits, p: Bits, old: Bits, source: Bits, value: u32) -> bool
     ensures { result ≡ tries_with label p old source value }
 {
@@ -68,6 +70,7 @@ pub(in crate) fn releases(label: Bits, p: Bits, found: Option<u32>, registers: &
 }
 
 // Whether a relabelling is carried out, or passes by: the record runs, and neither end tick nor limit bars the op.
+#[tactic(auto, unfolding(crate::specs::Inner::Release::has_time, model::specs::Record::newest))]
 pub(in crate) fn has_time(limit: u32, control: Control) -> bool
     requires { control.clock ≤ most_ticks }
     ensures { result ≡ has_time limit control }

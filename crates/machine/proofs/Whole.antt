@@ -2,11 +2,9 @@
 -- Assumes nothing.
 use Prim.Native.Nat.{ℕ, ◌+◌, ◌-◌}
 use mathlib.Core.Path.{◌≡◌, refl, sym, ap, ◌∙◌}
-use mathlib.Core.Bool.{true, false}
+use mathlib.Core.Bool.{true}
 use mathlib.Core.List.{List}
 use native.Mathlib.Nat.{le_refl}
-use Rattle.causes.specs.declared.Cause.TheVariants.{ShortMemory, IllFormed}
-use Rattle.std.specs.Prelude.{Ok, Err}
 use Rattle.model.specs.declared.Control.{Control}
 use Rattle.model.specs.declared.Request.{Request}
 use Rattle.model.specs.declared.Request.TheVariants.{Step, Run, RunTo}
@@ -17,7 +15,7 @@ use Rattle.model.specs.declared.Registers.{Registers}
 use Rattle.model.specs.Registers.{state_over}
 use Rattle.model.specs.WellFormed.{well_formed, lent_whole}
 use Rattle.model.specs.Step.{run, run_to}
-use Rattle.model.specs.Answer.{answer, work, answer_of}
+use Rattle.model.specs.Answer.{work}
 use Rattle.model.proofs.Truth.{choice}
 use Rattle.model.proofs.Ready.{fit}
 use Rattle.model.proofs.RunTo.{unbarred, past_stays}
@@ -26,7 +24,6 @@ use Rattle.pacing.specs.declared.Pace.{Pace}
 use Rattle.pacing.proofs.Fitting.{ready_fitting}
 use Rattle.engine.specs.Advance.{paced, advanced}
 use Rattle.machine_record.specs.Struct.{record_of}
-use Rattle.machine.specs.Answered.{answered}
 use Rattle.machine.specs.Inner.Carried.{pace_of, Carried}
 
 -- The steps at a request's pace are what is asked for: of a run the limit bars none, and a run to a tick that is past does
@@ -53,24 +50,3 @@ carried_of {q} {m} {pace} {words} {marks} {control} {registers} {words'} w l e h
     there =
         let s = state_over m.fixed m.control m.registers words marks in
         h ∙ rw (ready_fitting s w l, e) (paced_work q s w)
-
-module _ (q : Request) (m : Machine) (words labels : List ℕ) where
-  -- 7 where the record is not well-formed.
-  pub answered_ill : well_formed (record_of m) ≡ false
-      → answered (record { outcome = Err IllFormed; machine = m }) words labels ≡ answer_of q (record_of m) (lent words labels)
-  unfolding answer
-  answered_ill w = rw w
-
-  module _ (w : well_formed (record_of m) ≡ true) where
-    -- Then 6 where lent words or labels are shorter than the size.
-    pub answered_short : lent_whole m.fixed.size (lent words labels) ≡ false
-        → answered (record { outcome = Err ShortMemory; machine = m }) words labels ≡ answer_of q (record_of m) (lent words labels)
-    unfolding answer
-    answered_short l = rw (w, l)
-
-    -- Else what was asked for.
-    pub answered_done : lent_whole m.fixed.size (lent words labels) ≡ true → {r : Machine} {words' labels' : List ℕ}
-        → Carried q m words labels r words' labels'
-        → answered (record { outcome = Ok tt; machine = r }) words' labels' ≡ answer_of q (record_of m) (lent words labels)
-    unfolding answer
-    answered_done l h = rw (w, l, h.machine, h.memory)

@@ -62,6 +62,7 @@ fn refused(machine: Machine, cause: Cause) -> Answer
 }
 
 // The answer of one step, of a run or of a run to a tick.
+#[tactic(auto, unfolding(model::specs::Answer::answer))]
 pub fn answer_of(
     machine: Machine,
     request: Request,

@@ -26,6 +26,7 @@ pub struct Refused {
 
 // The view of a text from a label at a tick. The memory may hold anything: what lies below the text's size is set anew, and
 // is left as it is at the tick, also where the output is too short.
+#[tactic(auto, using(crate::proofs::Laws::refused_view, crate::proofs::Laws::above_view, crate::proofs::Laws::listed_view))]
 pub fn view(
     label: Bits,
     tick: u64,
