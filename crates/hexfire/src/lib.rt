@@ -13,6 +13,7 @@ use labels::Bits;
 
 // Fires an image and gives how many bytes of the output it has written. Output that is too short is left as it is, with 0
 // bytes. The memory may hold anything: what lies below the image's size is set anew, the rest is left.
+#[tactic(auto, using(fire::proofs::Laws::load_fired, model::proofs::Program::hex_ready), unfolding(model::specs::Program::fire_hex))]
 pub fn fire_hex(
     text: &[u8],
     hex: &[u8],
@@ -29,6 +30,7 @@ pub fn fire_hex(
 
 // The same in a memory of its own, all 0, and into an output that has room for every reply: what the program `hexfiring`
 // prints for an image.
+#[tactic(auto, using(texts::proofs::Buffer::whole_reply, texts::proofs::Buffer::whole_counts, model::proofs::Program::hex_ready), unfolding(model::specs::Program::program_memory, model::specs::Program::fire_hex, model::specs::Program::fire_hex_alone))]
 pub fn fire_hex_alone(text: &[u8], hex: &[u8], label: Bits, out: &mut [u8; OUTPUT]) -> usize
     ensures reply { replied result out.new ≡ fire_hex_alone text.now hex.now label out.old }
     ensures counted { (result ≤ length out.new) × (result ≡ length (take result out.new)) }

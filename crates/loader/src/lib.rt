@@ -24,6 +24,7 @@ use verdicts::{BEHIND_HEADER, last_of, line_verdict};
 pub const MOST_WORDS: usize = numbers::MOST_WORDS as usize;
 
 // One more gate.
+#[tactic(auto, using(texts::proofs::Ranges::gate_range))]
 fn with_gate(machine: Machine, pc: u64, p: u64, t: u64) -> Machine
     requires { gate_in_range machine.fixed.count pc p t ≡ true }
     ensures { record_of result ≡ with_gate (record_of machine) pc p t }
@@ -46,6 +47,7 @@ fn with_gate(machine: Machine, pc: u64, p: u64, t: u64) -> Machine
 }
 
 // One register set.
+#[tactic(auto, using(texts::proofs::Ranges::entry_range))]
 fn with_register(machine: Machine, k: u64, label: u64, value: u64) -> Machine
     requires { entry_in_range register_count k label value ≡ true }
     ensures { record_of result ≡ with_register (record_of machine) k label value }
@@ -72,6 +74,7 @@ fn with_line(machine: Machine, line: Line) -> Machine
 }
 
 // The word of a W line.
+#[tactic(auto, using(texts::proofs::Kept::stored_range, texts::proofs::Kept::not_stored))]
 fn store_word(line: Line, words: &mut [u32], labels: &mut [Bits])
     requires line_value { is_storable (length words.old) line ≡ true }
     requires line_value_2 { is_storable (length labels.old) line ≡ true }

@@ -56,6 +56,7 @@ struct Entry {
 
 // Prints the machine with the memory that is lent to it, words and their labels, the marks: everything, for the label that
 // every other flows to.
+#[tactic(auto, using(labels::proofs::Constants::highest_number))]
 pub fn print(machine: Machine, words: &[u32], marks: &[Bits], out: &mut [u8]) -> Printed
     ensures { printing_of result out.new ≡ Listing·print (record_of machine) (lent words.now marks.now) out.old }
 {
@@ -78,6 +79,7 @@ pub fn print_for(
 }
 
 // Writes the listing of a well-formed machine whose memory is whole, where the output is long enough, and tells its length.
+#[tactic(auto, using(model::proofs::Ready::whole_lengths, crate::proofs::Answers::size_most), unfolding(model::specs::Listing::print_for, model::specs::Listing::listed, writer::specs::Writing::over))]
 fn write_whole(
     machine: Machine,
     viewer: Bits,
@@ -150,6 +152,7 @@ fn write_line_at(out: &mut [u8], at: usize, letter: u8, numbers: &[u64]) -> usiz
 // ---- the E line and the F lines
 
 // Writes them, or a line `H` in their place where the pc label is not seen.
+#[tactic(auto, using(texts::proofs::Listing::head_seen), unfolding(model::specs::Seen::within))]
 fn write_head(out: &mut [u8], viewer: Bits, control: Control) -> usize
     ensures { Placed (head_for (control_seen viewer control)) out.old 0 result out.new }
 {
@@ -259,6 +262,7 @@ fn entry_fields(entry: Entry) -> [u64; 3]
 }
 
 // Whether an entry is seen and differs from value 0, label 240.
+#[tactic(auto, unfolding(model::specs::Listing::is_listed, model::specs::Seen::within))]
 fn is_listed(viewer: Bits, label: Bits, value: u32) -> bool
     ensures { result ≡ (within viewer label && is_listed label value) }
 {
