@@ -27,9 +27,18 @@ pub fn read_alone(word: &[u8]) -> Option<Number>
     (word.len() < number.length).then_some(number)
 }
 
-// The number that a text begins with: one to ten digits without leading zeros.
-#[tactic(auto, using(crate::proofs::Digits::all_digits, crate::proofs::Digits::few_digits), unfolding(model::specs::Text::number))]
+// The number that a text begins with: one to ten digits without leading zeros. Of a longer row of digits one more than a
+// number may have is looked at, however many follow.
+#[tactic(auto, using(crate::proofs::Digits::number_in_front))]
 pub fn read_number(text: &[u8]) -> Option<Number>
+    ensures { result ≡ number text.now }
+{
+    number_of(&text[..(MOST_DIGITS + 1).min(text.len())])
+}
+
+// The same of a text that is looked at as far as its digits go.
+#[tactic(auto, using(crate::proofs::Digits::all_digits, crate::proofs::Digits::few_digits), unfolding(model::specs::Text::number))]
+fn number_of(text: &[u8]) -> Option<Number>
     ensures { result ≡ number text.now }
 {
     let digits = leading_digits(text);

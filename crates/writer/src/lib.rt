@@ -41,10 +41,13 @@ fn fields_length(numbers: &[u64]) -> usize
     numbers.iter().map(|n| 1 + digit_count(*n)).sum()
 }
 
-// How many digits a number has.
+// How many digits a number has. Most numbers of a listing are short, and one digit is told without a logarithm.
 fn digit_count(n: u64) -> usize
     ensures { result ≡ length (decimal n) }
 {
+    if n < 10 {
+        return 1;
+    }
     1 + n.checked_ilog10().unwrap_or(0) as usize
 }
 
@@ -69,17 +72,18 @@ fn put_field(out: &mut [u8], n: u64) -> usize
     1 + put_number(&mut out[1..], n)
 }
 
-// Writes a number, its last digit first. By hand: the library's writing into a slice
-// promises no bytes, and `Wrote` says which they are.
+// Writes a number, its last digit first; the first one is what is left, and is not divided again. By hand: the library's
+// writing into a slice promises no bytes, and `Wrote` says which they are.
 fn put_number(out: &mut [u8], n: u64) -> usize
     requires { length (decimal n) ≤ length out.old }
     ensures { Wrote (decimal n) out.old result out.new }
 {
     let count = digit_count(n);
     let mut rest = n;
-    for at in (0..count).rev() {
+    for at in (1..count).rev() {
         out[at] = b'0' + (rest % 10) as u8;
         rest /= 10;
     }
+    out[0] = b'0' + rest as u8;
     count
 }
