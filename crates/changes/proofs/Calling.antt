@@ -2,20 +2,21 @@
 -- Assumes nothing.
 use Prim.Native.Nat.{ℕ, ◌≤◌}
 use mathlib.Core.Path.{◌≡◌, refl, sym, ap, ◌∙◌}
-use mathlib.Core.Bool.{true, false≢true}
+use mathlib.Core.Bool.{Bool, true, false, cond, false≢true}
 use mathlib.Core.List.{List}
 use native.Mathlib.Omega.{arith}
+use lib.Dec.{eqb}
 use lib.ListN.{length, get_or, get_or-eq_default}
+use Rattle.model.specs.declared.Call.{Call}
+use Rattle.model.specs.declared.Call.TheVariants.{Empty, Gate, Upcall}
 use Rattle.model.specs.declared.CallGate.{CallGate}
 use Rattle.model.specs.declared.Fixed.{Fixed}
 use Rattle.model.specs.Record.{state_from, is_gate, is_upcall, pair_of, end_tick_of, in_upcall}
 use Rattle.model.specs.WellFormed.{no_gate}
 use Rattle.model.specs.Step.{end_tick}
-use Rattle.parts.specs.declared.live.Kind.{Kind}
-use Rattle.parts.specs.declared.live.Kind.TheVariants as kinds
 use Rattle.parts.specs.declared.live.Frame.{Frame}
 use Rattle.parts.specs.declared.live.Live.{Live}
-use Rattle.parts.specs.Live.{call_from, call_of, upcall_ends, control_of}
+use Rattle.parts.specs.Live.{call_of, upcall_ends, control_of}
 use Rattle.parts.proofs.Frames.{newest_is}
 
 -- ---- the newest call
@@ -36,12 +37,14 @@ module _ (live : Live) where
 -- A frame that holds a gate call has the pair that is kept.
 pub kept_pair_lem : (f : Frame) → is_gate (call_of f) ≡ true → pair_of (call_of f) ≡ f.pair
 unfolding call_of
-kept_pair_lem f = go f.kind
+kept_pair_lem f = go (eqb f.kind 0) (eqb f.kind 1)
   where
-    go : (kind : Kind) → is_gate (call_from kind f.back f.pair f.end) ≡ true → pair_of (call_from kind f.back f.pair f.end) ≡ f.pair
-    go kinds.Empty e = absurd (false≢true e)
-    go kinds.Gate e = refl
-    go kinds.Upcall e = absurd (false≢true e)
+    go : (none gate : Bool)
+        → let c : Call = cond none Empty (cond gate (Gate f.back f.pair) (Upcall f.back f.pair f.end)) in
+        is_gate c ≡ true → pair_of c ≡ f.pair
+    go true gate e = absurd (false≢true e)
+    go false true e = refl
+    go false false e = absurd (false≢true e)
 
 -- ---- numbers of gates
 

@@ -36,7 +36,7 @@ pub extern "C" fn jennydusk_load(
         return SHORT_BUFFER;
     }
     let loaded = load(text, words, labels);
-    after_loading(loaded, record)
+    after_loading(loaded, 0, record)
 }
 
 // One step of the record.

@@ -29,5 +29,5 @@ pub extern "C" fn jennydusk_load_hex(
         return SHORT_BUFFER;
     }
     let loaded = load_hex(text, hex, label, words, labels);
-    after_loading_hex(loaded, record, line)
+    after_loading_hex(loaded, 0, record, line)
 }

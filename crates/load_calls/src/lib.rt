@@ -6,8 +6,7 @@ mod from_hex;
 
 ghost use Rattle.std.specs.Prelude.{ℕ, ◌≡◌, List};
 ghost use Rattle.record_calls.specs.RecordCalls.{left};
-ghost use Rattle.header.specs.Loading.{loading_of};
-ghost use Rattle.load_calls.specs.Loads.{counted, after_loading};
+ghost use Rattle.load_calls.specs.Loads.{counted, loading_told, after_loading};
 
 use causes::DONE;
 pub use from_hex::after_loading_hex;
@@ -25,14 +24,15 @@ pub fn counted(number: u8, count: u32) -> u64
     number as u64 + NUMBERS * count as u64
 }
 
-// What a load answers and leaves of the record's buffer. Of the lent memory nothing is said here.
-pub fn after_loading(loaded: Result<Machine, Refusal<u32>>, record: &mut [u64]) -> u64
-    ensures { (words labels : List ℕ) → left result «record».new words labels ≡ after_loading (loading_of loaded words labels) «record».old }
+// What a load answers and leaves of the record's buffer. Where it was carried out, this line stands beside it: 0 of every load
+// of ours, and no caller has to tell that one. Of the lent memory nothing is said here.
+pub fn after_loading(loaded: Result<Machine, Refusal<u32>>, line: u32, record: &mut [u64]) -> u64
+    ensures { (words labels : List ℕ) → left result «record».new words labels ≡ after_loading (loading_told line loaded words labels) «record».old }
 {
     match loaded {
         Ok(machine) => {
             keep(Ok(()), machine, record);
-            counted(DONE, 0)
+            counted(DONE, line)
         }
         Err(refusal) => counted(refusal.cause.number(), refusal.line),
     }

@@ -1,46 +1,39 @@
 -- The control while the machine runs, and the control that it stands for.
 -- Assumes nothing.
-use Rattle.std.specs.Prelude.{ℕ, ◌≡◌, ◌⊎◌, Bool, true, false, ◌||◌, cond, refl}
+use Rattle.std.specs.Prelude.{◌≡◌, ◌⊎◌, Bool, true, false, ◌||◌, cond, eqb, refl}
 use mathlib.Core.Bool.{false≢true}
-use Rattle.model.specs.declared.Pair.{Pair}
 use Rattle.model.specs.declared.Control.{Control}
 use Rattle.model.specs.declared.Call.{Call}
 use Rattle.model.specs.declared.Call.TheVariants.{Empty, Gate, Upcall}
 use Rattle.model.specs.Record.{is_empty, is_gate, is_upcall, return_of, pair_of, end_tick_of}
-use Rattle.parts.specs.declared.live.Kind.{Kind}
-use Rattle.parts.specs.declared.live.Kind.TheVariants as kinds
 use Rattle.parts.specs.declared.live.Frame.{Frame}
 use Rattle.parts.specs.declared.live.Live.{Live}
 
--- The call of a kind, which keeps this return place, pair and end tick.
-abbrev pub call_from : Kind → ℕ → Pair → ℕ → Call
-call_from kinds.Empty k q e = Empty
-call_from kinds.Gate k q e = Gate k q
-call_from kinds.Upcall k q e = Upcall k q e
-
 -- The call that a frame holds, by its kind: none, a gate call, or an upcall.
 unfoldable pub call_of : Frame → Call
-call_of f = call_from f.kind f.back f.pair f.end
+call_of f = cond (eqb f.kind 0) Empty (cond (eqb f.kind 1) (Gate f.back f.pair) (Upcall f.back f.pair f.end))
 
 -- If it is an upcall, its end tick is that of the frame.
 pub upcall_ends : (f : Frame) → is_upcall (call_of f) ≡ true → f.end ≡ end_tick_of (call_of f)
 unfolding call_of
-upcall_ends f = go f.kind
+upcall_ends f = go (eqb f.kind 0) (eqb f.kind 1)
   where
-    go : (kind : Kind) → is_upcall (call_from kind f.back f.pair f.end) ≡ true → f.end ≡ end_tick_of (call_from kind f.back f.pair f.end)
-    go kinds.Empty e = absurd (false≢true e)
-    go kinds.Gate e = absurd (false≢true e)
-    go kinds.Upcall e = refl
+    go : (none gate : Bool)
+        → let c : Call = cond none Empty (cond gate (Gate f.back f.pair) (Upcall f.back f.pair f.end)) in
+        is_upcall c ≡ true → f.end ≡ end_tick_of c
+    go true gate e = absurd (false≢true e)
+    go false true e = absurd (false≢true e)
+    go false false e = refl
 
 -- No open call.
 abbrev pub no_frame : Frame
-no_frame = record { end = 0; back = 0; pair = record { pc = 0; timing = 0 }; kind = kinds.Empty }
+no_frame = record { end = 0; back = 0; pair = record { pc = 0; timing = 0 }; kind = 0 }
 
 -- The frame of a call.
 abbrev pub frame_of : Call → Frame
 frame_of Empty = no_frame
-frame_of (Gate k q) = record { end = 0; back = k; pair = q; kind = kinds.Gate }
-frame_of (Upcall k q e) = record { end = e; back = k; pair = q; kind = kinds.Upcall }
+frame_of (Gate k q) = record { end = 0; back = k; pair = q; kind = 1 }
+frame_of (Upcall k q e) = record { end = e; back = k; pair = q; kind = 2 }
 
 -- The control of a machine that runs on from this one: its newest call on top.
 abbrev pub live_of : Control → Live

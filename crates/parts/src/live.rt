@@ -1,5 +1,5 @@
 // The control while the machine runs. Its open calls are frames with a field for each part, the newest on top of the
-// older: with `Call` in their place, built anew at each change, a step takes 2 to 5 in a hundred more instructions.
+// older: an enum in their place would be built anew at each change.
 ghost use Rattle.std.specs.Prelude.{ℕ, ◌≡◌, refl};
 ghost use Rattle.model.specs.declared.Call.{Call};
 ghost use Rattle.parts.specs.Live.{call_of, upcall_ends, no_frame, frame_of, live_of, control_of};
@@ -7,21 +7,21 @@ ghost use Rattle.parts.specs.Live.{call_of, upcall_ends, no_frame, frame_of, liv
 use crate::calls::OpenCall;
 use model::{Call, Control, Pair};
 
-// Which call a frame holds, if any.
-#[derive(Clone, Copy, PartialEq, Eq)]
-pub enum Kind {
-    Empty,
-    Gate,
-    Upcall,
-}
+// What a frame holds: no call, a gate call, or above that an upcall. Numbers and no enum: any number may stand in a frame, and
+// what each means is promised (`call_of`).
+pub const NO_CALL: u16 = 0;
 
-// An open call with a field for each part.
+pub const GATE_CALL: u16 = 1;
+
+pub const UPCALL: u16 = 2;
+
+// An open call with a field for each part. The kind takes two bytes, so that the struct has none that mean nothing.
 #[derive(Clone, Copy)]
 pub struct Frame {
     pub end: u64,
     pub back: u32,
     pub pair: Pair,
-    pub kind: Kind,
+    pub kind: u16,
 }
 
 // The control of a machine that runs. `end` and `why` are the record's own numbers: one from outside may have any byte there,
@@ -46,7 +46,7 @@ impl Frame {
             end: 0,
             back: 0,
             pair: Pair { pc: 0, timing: 0 },
-            kind: Kind::Empty,
+            kind: NO_CALL,
         }
     }
 }
@@ -58,15 +58,15 @@ impl OpenCall for Frame {
     ghost end = { λ f. f.end };
 
     fn is_empty(self) -> bool {
-        self.kind == Kind::Empty
+        self.kind == NO_CALL
     }
 
     fn is_gate(self) -> bool {
-        self.kind == Kind::Gate
+        self.kind == GATE_CALL
     }
 
     fn is_upcall(self) -> bool {
-        self.kind == Kind::Upcall
+        GATE_CALL < self.kind
     }
 
     fn end_tick(self) -> u64 {
@@ -86,13 +86,13 @@ impl From<Call> for Frame {
                 end: 0,
                 back,
                 pair,
-                kind: Kind::Gate,
+                kind: GATE_CALL,
             },
             Call::Upcall(back, pair, end) => Frame {
                 end,
                 back,
                 pair,
-                kind: Kind::Upcall,
+                kind: UPCALL,
             },
         }
     }
@@ -104,9 +104,9 @@ impl From<Frame> for Call {
 
     fn from(frame: Frame) -> Call {
         match frame.kind {
-            Kind::Empty => Call::Empty,
-            Kind::Gate => Call::Gate(frame.back, frame.pair),
-            Kind::Upcall => Call::Upcall(frame.back, frame.pair, frame.end),
+            NO_CALL => Call::Empty,
+            GATE_CALL => Call::Gate(frame.back, frame.pair),
+            _ => Call::Upcall(frame.back, frame.pair, frame.end),
         }
     }
 }

@@ -1,0 +1,2 @@
+-- A law that proofs of calls cite.
+pub mod Laws
