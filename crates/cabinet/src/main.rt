@@ -3,8 +3,6 @@
 // and its listing written before the next name is waited for. Before a listing stands a line with the file's name.
 #![tactic(auto)]
 
-ghost use Rattle.std.specs.Io.{ReadsAtMost};
-
 mod names;
 
 use arguments::has_argument;
@@ -38,9 +36,12 @@ struct Memory {
     labels: [Bits; MOST_WORDS],
 }
 
-// Writes a listing behind the line with the file's name.
+// Writes a listing behind the line with the file's name, piece by piece: of a line that `println!` gathers a pipe without room
+// takes nothing.
 fn write_listing(rt: &impl Print, name: &str, listing: &[u8]) -> io::Result<()> {
-    println!(rt; "= {name}")?;
+    rt.write_all(b"= ")?;
+    rt.write_all(name.as_bytes())?;
+    rt.write_all(b"\n")?;
     rt.write_all(listing)
 }
 
@@ -61,19 +62,18 @@ fn complain_of(rt: &HostRuntime, what: &[u8], failure: Error) {
     let _ = say_of(rt, what, failure);
 }
 
-// Reads a file whole.
-fn read_file(rt: &HostRuntime, name: &str, text: &mut [u8]) -> io::Result<usize>
-    ensures { ReadsAtMost result text.new }
-{
-    let mut file = File::open(rt, name)?;
-    read_whole(&mut file, text)
-}
-
-// Fires a file in the memory. A file that can't be read whole isn't fired. Fails where standard output doesn't take what is
-// written.
+// Fires a file in the memory. It stays open until its listing is written: who waits at its other end sees no end before. A file
+// that can't be read whole isn't fired. Fails where standard output doesn't take what is written.
 fn fire_file(rt: &HostRuntime, name: &str, memory: &mut Memory) -> io::Result<()> {
+    let mut file = match File::open(rt, name) {
+        Ok(file) => file,
+        Err(failure) => {
+            complain_of(rt, name.as_bytes(), failure);
+            return Ok(());
+        }
+    };
     let mut text = [0u8; SPACE];
-    let count = match read_file(rt, name, &mut text) {
+    let count = match read_whole(&mut file, &mut text) {
         Ok(count) => count,
         Err(failure) => {
             complain_of(rt, name.as_bytes(), failure);

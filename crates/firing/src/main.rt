@@ -3,11 +3,21 @@
 #![tactic(auto)]
 
 use fire::{OUTPUT, fire_alone};
-use replies::{complain, reply_to};
+use replies::{Failure, SPACE, complain, read_input, write_output};
+use std::io::writer;
+
+// Fires the text on standard input and writes what comes of it.
+fn fire_input(rt: &HostRuntime) -> Result<(), Failure> {
+    let mut text = [0u8; SPACE];
+    let length = read_input(&mut rt.stdin(), &mut text)?;
+    let mut output = [0u8; OUTPUT];
+    let count = fire_alone(&text[..length], &mut output);
+    // By `Print`, which gives up where a write is interrupted again and again.
+    write_output(&mut writer(rt), &output[..count])
+}
 
 fn main(rt: HostRuntime) {
-    let mut output = [0u8; OUTPUT];
-    if let Err(failure) = reply_to(&mut rt.stdin(), &mut rt.stdout(), &mut output, fire_alone) {
+    if let Err(failure) = fire_input(&rt) {
         complain(&rt, "firing", failure);
     }
 }

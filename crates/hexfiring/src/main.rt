@@ -13,6 +13,7 @@ use labels::Bits;
 use replies::{Failure, SPACE, complain, read_input, write_output};
 use std::fmt::{Display, Formatter};
 use std::fs::File;
+use std::io::writer;
 use std::rt::Env;
 use std::{fmt, str};
 
@@ -70,16 +71,25 @@ fn fire_input(rt: &HostRuntime, label: Bits, text: &[u8]) -> Result<(), Refusal>
     }
     let mut output = [0u8; OUTPUT];
     let count = fire_hex_alone(text, &hex[..length], label, &mut output);
-    Ok(write_output(&mut rt.stdout(), &output[..count])?)
+    // By `Print`, which gives up where a write is interrupted again and again.
+    Ok(write_output(&mut writer(rt), &output[..count])?)
 }
 
-// Fires it with the M text of a file, which stays open meanwhile: with standard input closed the file stands in its place. So
-// it is opened and read here, and not as `cabinet` does.
+// Fires it with the M text of an open file.
+fn fire_opened(rt: &HostRuntime, label: Bits, file: &mut File) -> Result<(), Refusal> {
+    let mut text = [0u8; SPACE];
+    let length = read_whole(file, &mut text).map_err(|_| Refusal::File)?;
+    fire_input(rt, label, &text[..length])
+}
+
+// Fires it with the M text of a file, which stays open until all is said, why nothing was fired too: with standard input
+// closed the file stands in its place. So it is opened here.
 fn fire_file(rt: &HostRuntime, label: Bits, name: &str) -> Result<(), Refusal> {
     let mut file = File::open(rt, name).map_err(|_| Refusal::File)?;
-    let mut text = [0u8; SPACE];
-    let length = read_whole(&mut file, &mut text).map_err(|_| Refusal::File)?;
-    fire_input(rt, label, &text[..length])
+    if let Err(refusal) = fire_opened(rt, label, &mut file) {
+        complain(rt, "hexfiring", refusal);
+    }
+    Ok(())
 }
 
 // Fires it with the M text of the file that an argument names. One that is too long, or is not text, names none.

@@ -5,36 +5,73 @@
 use labels::{Bits, Label};
 use std::io;
 
-fn answer(holds: bool) -> &'static str {
-    if holds { "yes" } else { "no" }
+// Lines are written piece by piece: of a line that `println!` gathers a pipe without room takes nothing.
+fn say(rt: &impl Print, text: &str) -> io::Result<()> {
+    rt.print(text)
+}
+
+fn number(rt: &impl Print, n: Bits) -> io::Result<()> {
+    rt.print(n)
+}
+
+fn answer(rt: &impl Print, holds: bool) -> io::Result<()> {
+    if holds {
+        say(rt, ": yes\n")
+    } else {
+        say(rt, ": no\n")
+    }
 }
 
 fn flow(rt: &impl Print, from: Bits, to: Bits) -> io::Result<()> {
-    let holds = answer(Label(from).flows_to(Label(to)));
-    println!(rt; "{from} flows to {to}: {holds}")
+    number(rt, from)?;
+    say(rt, " flows to ")?;
+    number(rt, to)?;
+    answer(rt, Label(from).flows_to(Label(to)))
+}
+
+// What two labels make together, under its name.
+fn together(rt: &impl Print, name: &str, a: Bits, b: Bits, made: Label) -> io::Result<()> {
+    say(rt, name)?;
+    number(rt, a)?;
+    say(rt, " and ")?;
+    number(rt, b)?;
+    say(rt, ": ")?;
+    number(rt, made.0)?;
+    say(rt, "\n")
 }
 
 fn join(rt: &impl Print, a: Bits, b: Bits) -> io::Result<()> {
-    println!(rt; "join of {a} and {b}: {}", Label(a).join(Label(b)).0)
+    together(rt, "join of ", a, b, Label(a).join(Label(b)))
 }
 
 fn meet(rt: &impl Print, a: Bits, b: Bits) -> io::Result<()> {
-    println!(rt; "meet of {a} and {b}: {}", Label(a).meet(Label(b)).0)
+    together(rt, "meet of ", a, b, Label(a).meet(Label(b)))
 }
 
 fn soundness(rt: &impl Print, label: Bits) -> io::Result<()> {
-    let holds = answer(Label(label).is_uncompromised());
-    println!(rt; "{label} is uncompromised: {holds}")
+    number(rt, label)?;
+    say(rt, " is uncompromised")?;
+    answer(rt, Label(label).is_uncompromised())
+}
+
+// A change of label, before its answer.
+fn change(rt: &impl Print, verb: &str, from: Bits, to: Bits, under: Bits) -> io::Result<()> {
+    say(rt, verb)?;
+    number(rt, from)?;
+    say(rt, " to ")?;
+    number(rt, to)?;
+    say(rt, " under ")?;
+    number(rt, under)
 }
 
 fn raise(rt: &impl Print, from: Bits, to: Bits, under: Bits) -> io::Result<()> {
-    let holds = answer(Label(from).may_raise(Label(to), Label(under)));
-    println!(rt; "raise {from} to {to} under {under}: {holds}")
+    change(rt, "raise ", from, to, under)?;
+    answer(rt, Label(from).may_raise(Label(to), Label(under)))
 }
 
 fn relabel(rt: &impl Print, from: Bits, to: Bits, under: Bits) -> io::Result<()> {
-    let holds = answer(Label(from).may_relabel(Label(to), Label(under)));
-    println!(rt; "relabel {from} to {to} under {under}: {holds}")
+    change(rt, "relabel ", from, to, under)?;
+    answer(rt, Label(from).may_relabel(Label(to), Label(under)))
 }
 
 fn main(rt: HostRuntime) -> io::Result<()> {

@@ -1,13 +1,12 @@
-// What the programs share: read to the end, one call, write what it gave; and what they say where that goes wrong.
+// What the programs share: they read to the end, call once, and write what that gave; and what they say where it goes wrong. The
+// call stands in each program: a function that takes it would have to ask of its caller that it may be called.
 #![tactic(auto)]
 
 ghost use Rattle.std.specs.Prelude.{◌<◌, length, take, IfOk, OnOk};
 ghost use Rattle.std.specs.Io.{ReadsAtMost};
 ghost use Rattle.std.specs.Io.KnownBytes.{Appends, Consumes, IsAtEnd};
-ghost use Rattle.replies.specs.Reply.{IsCountOf, IsRead, Gives};
 
 use intake::read_whole;
-use std::convert::AsSlice;
 use std::fmt;
 use std::fmt::{Display, Formatter};
 use std::io::{Eprint, Read, Write};
@@ -50,23 +49,4 @@ pub fn write_output<O: Write>(output: &mut O, bytes: &[u8]) -> Result<(), Failur
     ensures { OnOk result (Appends (O.contents output.old) (O.contents output.new) bytes.now) }
 {
     output.write_all(bytes).map_err(|_| Failure::Unwritten)
-}
-
-// Reads an input whole and writes what a call makes of it.
-pub fn reply_to<I: Read, O: Write, B: AsSlice<u8>, F: FnOnce(&[u8], &mut B) -> usize>(
-    input: &mut I,
-    output: &mut O,
-    space: &mut B,
-    call: F,
-) -> Result<(), Failure>
-    requires callable { F.IsAlwaysCallable call }
-    requires counted { (t : _) (a : _) (n : _) (b : _) → F.post call t a n b → IsCountOf n (B.items b.now) }
-    ensures { OnOk result ((text : _) × (n : _) × IsRead (I.remaining input.old) (I.remaining input.new) SPACE text
-        × Gives F.FnOnce call text space.old n space.new
-        × Appends (O.contents output.old) (O.contents output.new) (take n (B.items space.new))) }
-{
-    let mut text = [0u8; SPACE];
-    let length = read_input(input, &mut text)?;
-    let count = call(&text[..length], space);
-    write_output(output, &space.as_slice()[..count])
 }

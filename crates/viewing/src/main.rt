@@ -5,7 +5,8 @@
 
 use arguments::{has_argument, label_argument, number_argument};
 use labels::Bits;
-use replies::{complain, reply_to};
+use replies::{Failure, SPACE, complain, read_input, write_output};
+use std::io::writer;
 use std::rt::Env;
 use view::{OUTPUT, view_alone};
 
@@ -17,6 +18,16 @@ fn read_arguments(env: &impl Env) -> Option<(Bits, u64)> {
     Some((label_argument(env, 1)?, number_argument(env, 2)?.value))
 }
 
+// Views the text on standard input and writes what comes of it.
+fn view_input(rt: &HostRuntime, label: Bits, tick: u64) -> Result<(), Failure> {
+    let mut text = [0u8; SPACE];
+    let length = read_input(&mut rt.stdin(), &mut text)?;
+    let mut output = [0u8; OUTPUT];
+    let count = view_alone(label, tick, &text[..length], &mut output);
+    // By `Print`, which gives up where a write is interrupted again and again.
+    write_output(&mut writer(rt), &output[..count])
+}
+
 fn main(rt: HostRuntime) {
     let Some((label, tick)) = read_arguments(&rt) else {
         complain(
@@ -26,14 +37,7 @@ fn main(rt: HostRuntime) {
         );
         return;
     };
-    let mut output = [0u8; OUTPUT];
-    let replied = reply_to(
-        &mut rt.stdin(),
-        &mut rt.stdout(),
-        &mut output,
-        |text, out| { view_alone(label, tick, text, out) },
-    );
-    if let Err(failure) = replied {
+    if let Err(failure) = view_input(&rt, label, tick) {
         complain(&rt, "viewing", failure);
     }
 }
