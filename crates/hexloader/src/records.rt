@@ -64,12 +64,17 @@ pub(in crate) fn judge_records(hex: &[u8], places: &mut [Option<u8>]) -> Result<
         let rest = &hex[at..];
         let read = read_record(rest);
         let next = at + read.next;
-        match read.found {
-            Some(Found::Data { address, count }) => give_bytes(rest, address, count, line, places)?,
-            Some(Found::End) if next == hex.len() => return Ok(()),
-            Some(Found::End) => return Err(malformed(line + 1)),
-            None => return Err(malformed(line)),
-        }
+        // Taken apart as a line of a text is: what is not of the wanted kind ends the reading here.
+        let Some(found) = read.found else {
+            return Err(malformed(line));
+        };
+        let Found::Data { address, count } = found else {
+            if next == hex.len() {
+                return Ok(());
+            }
+            return Err(malformed(line + 1));
+        };
+        give_bytes(rest, address, count, line, places)?;
         at = next;
         line += 1;
     }

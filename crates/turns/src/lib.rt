@@ -170,7 +170,8 @@ pub fn ticks_at(
             let visible = may_go(turned[b] | turned[c], Label(t).lacking());
             ticks_of(Arithmetic::Multiply, visible, values[c])
         }
-        9 | 10 => MEMORY_TICKS,
+        9 => MEMORY_TICKS,
+        10 => MEMORY_TICKS,
         23 => ticks_of(Arithmetic::Divide, true, values[c]),
         24 => ticks_of(Arithmetic::Remainder, true, values[c]),
         _ => 1,

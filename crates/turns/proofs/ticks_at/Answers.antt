@@ -13,6 +13,9 @@ returns-in-8 c =
 pub returns-in-9 : goal.returns-in-9
 returns-in-9 c = memory_by _ _ _ _ c.op_of.ensures (omega arith) (omega arith)
 
+pub returns-in-10 : goal.returns-in-10
+returns-in-10 c = memory_by _ _ _ _ c.op_of.ensures (omega arith) (omega arith)
+
 pub returns-in-23 : goal.returns-in-23
 unfolding decode
 returns-in-23 c =
@@ -25,6 +28,3 @@ returns-in-24 c =
 
 pub returns-in_default : goal.returns-in_default
 returns-in_default c = brief _ _ _ _ c.op_of.ensures (((((tt, λ e. omega arith), λ e. omega arith), λ e. omega arith), λ e. omega arith), λ e. omega arith)
-
-pub returns-in_default-2 : goal.returns-in_default-2
-returns-in_default-2 c = brief _ _ _ _ c.op_of.ensures (((((tt, λ e. omega arith), λ e. omega arith), λ e. omega arith), λ e. omega arith), λ e. omega arith)
