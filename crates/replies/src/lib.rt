@@ -1,12 +1,15 @@
 // What the programs share: they read to the end, call once, and write what that gave; and what they say where it goes wrong. The
-// call stands in each program: a function that takes it would have to ask of its caller that it may be called.
+// call stands in each of ours: a function that takes it, as `reply_to` does for a program from elsewhere, has to ask of its
+// caller that it may be called.
 #![tactic(auto)]
 
 ghost use Rattle.std.specs.Prelude.{◌<◌, length, take, IfOk, OnOk};
 ghost use Rattle.std.specs.Io.{ReadsAtMost};
 ghost use Rattle.std.specs.Io.KnownBytes.{Appends, Consumes, IsAtEnd};
+ghost use Rattle.replies.specs.Reply.{IsCountOf, IsRead, Gives};
 
 use intake::read_whole;
+use std::convert::AsSlice;
 use std::fmt;
 use std::fmt::{Display, Formatter};
 use std::io::{Eprint, Read, Write};
@@ -50,3 +53,26 @@ pub fn write_output<O: Write>(output: &mut O, bytes: &[u8]) -> Result<(), Failur
 {
     output.write_all(bytes).map_err(|_| Failure::Unwritten)
 }
+
+// Reads an input whole and writes what a call makes of it. What is asked concerns the call alone: that it may be called, and
+// that what it counts lies within its space.
+pub fn reply_to<I: Read, O: Write, B: AsSlice<u8>, F: FnOnce(&[u8], &mut B) -> usize>(
+    input: &mut I,
+    output: &mut O,
+    space: &mut B,
+    call: F,
+) -> Result<(), Failure>
+    requires callable { F.IsAlwaysCallable call }
+    requires counted { (t : _) (a : _) (n : _) (b : _) → F.post call t a n b → IsCountOf n (B.items b.now) }
+    ensures { OnOk result ((text : _) × (n : _) × IsRead (I.remaining input.old) (I.remaining input.new) SPACE text
+        × Gives F.FnOnce call text space.old n space.new
+        × Appends (O.contents output.old) (O.contents output.new) (take n (B.items space.new))) }
+{
+    let mut text = [0u8; SPACE];
+    let length = read_input(input, &mut text)?;
+    let count = call(&text[..length], space);
+    write_output(output, &space.as_slice()[..count])
+}
+
+#[cfg(test)]
+mod tests;
